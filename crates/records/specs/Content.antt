@@ -1,0 +1,74 @@
+-- What a sheet holds: its records by kind, in their order (document 01, 'The interval sheet'). Assumes nothing.
+use Prim.Native.Nat.{ℕ}
+use mathlib.Core.Bool.{Bool, true, false, _&&_, cond}
+use mathlib.Core.List.{List, [], _∷_}
+use lib.Dec.{eqb}
+use lib.IntN.{ℤ, pos}
+use lib.ListN.{getD, replicate}
+use Rattle.records.specs.declared.Head.{Head}
+use Rattle.records.specs.declared.Zone.{Zone}
+use Rattle.records.specs.declared.Unit.{Unit}
+use Rattle.records.specs.declared.Place.{Place}
+use Rattle.records.specs.declared.Place.the-variants.{Proxy, Line}
+use Rattle.records.specs.declared.Point.{Point}
+use Rattle.records.specs.declared.Par.{Par}
+use Rattle.records.specs.declared.Factor.{Factor}
+
+-- an accepted sheet has one head
+pub record Content : Type 0 where
+  pub heads : List Head
+  pub zones : List Zone
+  pub units : List Unit
+  pub points : List Point
+  pub pars : List Par
+  pub factors : List Factor
+
+abbrev pub noContent : Content
+noContent = record { heads = []; zones = []; units = []; points = []; pars = []; factors = [] }
+
+-- what stands for a record where a list has none at an index; no definition of a figure depends on it
+abbrev pub noName : List ℕ
+noName = replicate 16 0
+
+abbrev pub noHead : Head
+noHead = record { name = noName; «monitoring_rto» = 0; seconds = 0; «monitoring_price» = 0; «nonmonitoring_price» = 0 }
+
+abbrev pub noZone : Zone
+noZone = record { name = noName; load = 0; losses = 0 }
+
+abbrev pub noUnit : Unit
+noUnit = record { name = noName; zone = 0; output = 0 }
+
+abbrev pub noPoint : Point
+noPoint = record { name = noName; sort = 0; place = Proxy; import = 0; export = 0 }
+
+abbrev pub noPar : Par
+noPar = record { name = noName; class = 0; actual = pos 0; target = pos 0 }
+
+abbrev pub noFactor : Factor
+noFactor = record { target = 0; subject = 0; index = 0; factor = pos 0 }
+
+-- the records at an index from 0
+abbrev pub head : Content → Head
+head c = getD (c .heads) 0 noHead
+
+abbrev pub zone : Content → ℕ → Zone
+zone c i = getD (c .zones) i noZone
+
+abbrev pub unit : Content → ℕ → Unit
+unit c i = getD (c .units) i noUnit
+
+abbrev pub point : Content → ℕ → Point
+point c i = getD (c .points) i noPoint
+
+abbrev pub par : Content → ℕ → Par
+par c i = getD (c .pars) i noPar
+
+-- whether a record is the factor for a target, a subject and an index from 1
+unfoldable pub bears : Factor → ℕ → ℕ → ℕ → Bool
+bears f target subject index = eqb (f .target) target && (eqb (f .subject) subject && eqb (f .index) index)
+
+-- the factor for a target, a subject and an index from 1. Each of those due stands in an accepted sheet just once
+unfoldable pub factorFor : List Factor → ℕ → ℕ → ℕ → ℤ
+factorFor [] target subject index = pos 0
+factorFor (f ∷ fs) target subject index = cond (bears f target subject index) (f .factor) (factorFor fs target subject index)
