@@ -80,6 +80,7 @@ lt-false x y e = go (le-or-lt y x)
     is-true : (b : Bool) → T b → true ≡ b
     is-true true t = refl
     is-true false t = absurd t
+
     go : (y ≤ℤ x) ⊎ (x <ℤ y) → y ≤ℤ x
     go (inl h) = h
     go (inr h) = absurd (not-both (is-true (ltZ x y) (h .lt) ∙ e))
@@ -90,6 +91,7 @@ le-false x y e = go (le-or-lt x y)
     is-true : (b : Bool) → T b → true ≡ b
     is-true true t = refl
     is-true false t = absurd t
+
     go : (x ≤ℤ y) ⊎ (y <ℤ x) → y <ℤ x
     go (inl h) = absurd (not-both (is-true (leZ x y) (h .le) ∙ e))
     go (inr h) = h

@@ -35,7 +35,6 @@ le-addr a b x y w = ((λ h. record { le = omega (arith, h .le, add-law x y) }), 
 pub le-end : (a b : ℕ) → Le a (pos 0) b (pos 0) ↔ a ≤ b
 le-end a b = ((λ h. omega (arith, h .le, up-pos 0, dn-pos 0)), (λ h. record { le = omega (arith, h, up-pos 0, dn-pos 0) }))
 
-
 pub eq-start : (x y : ℤ) → (x ≡ y) ↔ Eq 0 (x +ℤ pos 0) 0 (y +ℤ pos 0)
 eq-start x y = ((λ h. record { eq = omega (arith, eq-to x y h, add-law x (pos 0), add-law y (pos 0)) }), (λ h. eq-of x y (omega (arith, h .eq, add-law x (pos 0), add-law y (pos 0)))))
 
@@ -54,6 +53,7 @@ sfits z = (go z, back z)
     go : (z : ℤ) → SFits w64 z → ((negsuc 9223372036854775807 ≤ℤ z) × (z ≤ℤ pos 9223372036854775807))
     go (pos n) h = (le-of _ _ (omega arith), le-of _ _ (omega arith))
     go (negsuc n) h = (le-of _ _ (omega arith), le-of _ _ (omega arith))
+
     back : (z : ℤ) → ((negsuc 9223372036854775807 ≤ℤ z) × (z ≤ℤ pos 9223372036854775807)) → SFits w64 z
     back (pos n) h = record { sfits = omega (arith, le-to (h .1)) }
     back (negsuc n) h = record { sfits = omega (arith, le-to (h .0)) }
@@ -104,6 +104,9 @@ dn-scale k x = simp dn-mul (omega arith)
 
 -- products are multiplied out, their factors sorted, literals taken out in front
 pub ruleset zring = (+ℤ-assoc, *-distl, *-distr, neg-mull, neg-mulr, negℤ-+ℤ, negℤ-negℤ, *-assoc, *ℤ-comm, *-left-comm, lit-l, lit-r, nlit-l, nlit-r, scale-l, scale-r, scale-add, scale-neg)
+
 pub ruleset zin = (le-start, lt-start, eq-start, sfits, zring)
+
 pub ruleset zout = (le-addl, le-addr, le-end, eq-addl, eq-addr, eq-end, up-neg, dn-neg, up-scale, dn-scale)
+
 pub ruleset zarith = (arith, le-to, lt-to)

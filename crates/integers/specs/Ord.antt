@@ -54,6 +54,7 @@ abs-le k x d = (go x, back x)
     go : (x : ℤ) → (pos (k * natAbs x) ≤ℤ d) → ((negℤ d ≤ℤ (pos k *ℤ x)) × ((pos k *ℤ x) ≤ℤ d))
     go (pos n) h = (le-of _ _ (simp (up-neg, dn-neg) (omega zarith)), h)
     go (negsuc n) h = (le-of _ _ (simp (up-neg, dn-neg) (omega zarith)), le-of _ _ (simp (up-neg, dn-neg) (omega zarith)))
+
     back : (x : ℤ) → ((negℤ d ≤ℤ (pos k *ℤ x)) × ((pos k *ℤ x) ≤ℤ d)) → (pos (k * natAbs x) ≤ℤ d)
     back (pos n) h = h .1
     back (negsuc n) h = le-of _ _ (omega (zarith, simp (up-neg, dn-neg) at (le-to (h .0))))

@@ -16,6 +16,7 @@ pub abs-nat : (x : ℤ) (k : ℕ) → natAbs x ≤ k ↔ ((negℤ (pos k) ≤ℤ
 abs-nat x k = (within, (λ h. abs-within (h .0) (h .1)))
 
 pub ruleset zi = (within-iff, abs-nat, abs-le, zin)
+
 pub ruleset zo = zout
 
 pub lt-suc : (x y : ℤ) → x <ℤ y → (x +ℤ pos 1) ≤ℤ y
