@@ -1,0 +1,110 @@
+// Rows 6 to 9 and 11 of one record, by its fields.
+ghost use mathlib.Core.Path.{_≡_};
+ghost use Rattle.records.specs.Rows.{row, outside, beyond, badName, unlisted, noZoneOf, placeUnknown, headRow, zoneRow, unitRow, pointRow, parRow, factorOutside};
+
+use super::{Factor, Head, Par, Place, Point, Unit, Zone};
+
+pub fn row(number: u8, met: bool, below: u8) -> u8
+    ensures { λ r. ⌜ r ≡ row number met below ⌝ }
+{
+    if met { number } else { below }
+}
+
+fn outside(low: u32, n: u32, high: u32) -> bool
+    ensures { λ r. ⌜ r ≡ outside low n high ⌝ }
+{
+    (n < low) | (high < n)
+}
+
+// Outside ± most.
+fn beyond(most: u32, z: i64) -> bool
+    ensures { λ r. ⌜ r ≡ beyond most z ⌝ }
+{
+    let high = most as i64;
+    (z < -high) | (high < z)
+}
+
+fn wide32(z: i32) -> i64
+    ensures { λ r. ⌜ r ≡ z ⌝ }
+{
+    z as i64
+}
+
+fn wide16(z: i16) -> i64
+    ensures { λ r. ⌜ r ≡ z ⌝ }
+{
+    z as i64
+}
+
+fn unlisted(code: u8) -> bool
+    ensures { λ r. ⌜ r ≡ unlisted code ⌝ }
+{
+    outside(1, code as u32, 2)
+}
+
+fn no_zone_of(zones: u32, n: u8) -> bool
+    ensures { λ r. ⌜ r ≡ noZoneOf zones n ⌝ }
+{
+    outside(1, n as u32, zones)
+}
+
+fn place_unknown(zones: u32, place: Place) -> bool
+    ensures { λ r. ⌜ r ≡ placeUnknown zones place ⌝ }
+{
+    match place {
+        Place::Proxy => false,
+        Place::Line(n) => no_zone_of(zones, n),
+    }
+}
+
+// Rows 6 and 7, then those below.
+fn name_rows(name: &[u8], repeated: bool, below: u8) -> u8
+    ensures { λ r. ⌜ r ≡ row 6 (badName (now (name .entry))) (row 7 repeated below) ⌝ }
+{
+    row(6, !names::name_ok(name), row(7, repeated, below))
+}
+
+pub fn head_row(h: Head) -> u8
+    ensures { λ r. ⌜ r ≡ headRow h ⌝ }
+{
+    let prices = (400_000 < h.monitoring_price) | (400_000 < h.nonmonitoring_price);
+    let numbers = row(9, outside(1, h.seconds as u32, 900) | prices, 0);
+    name_rows(&h.name, false, row(8, unlisted(h.monitoring_rto), numbers))
+}
+
+pub fn zone_row(repeated: bool, z: Zone) -> u8
+    ensures { λ r. ⌜ r ≡ zoneRow repeated z ⌝ }
+{
+    let numbers = row(9, (2_000_000 < z.load) | (2_000_000 < z.losses), 0);
+    name_rows(&z.name, repeated, numbers)
+}
+
+pub fn unit_row(zones: u32, repeated: bool, u: Unit) -> u8
+    ensures { λ r. ⌜ r ≡ unitRow zones repeated u ⌝ }
+{
+    let numbers = row(9, 2_000_000 < u.output, 0);
+    name_rows(&u.name, repeated, row(8, no_zone_of(zones, u.zone), numbers))
+}
+
+pub fn point_row(zones: u32, repeated: bool, p: Point) -> u8
+    ensures { λ r. ⌜ r ≡ pointRow zones repeated p ⌝ }
+{
+    let numbers = row(9, (200_000 < p.import) | (200_000 < p.export), 0);
+    let codes = unlisted(p.sort) | place_unknown(zones, p.place);
+    name_rows(&p.name, repeated, row(8, codes, numbers))
+}
+
+pub fn par_row(repeated: bool, p: Par) -> u8
+    ensures { λ r. ⌜ r ≡ parRow repeated p ⌝ }
+{
+    let powers = beyond(200_000, wide32(p.actual)) | beyond(200_000, wide32(p.target));
+    let numbers = row(9, powers, 0);
+    name_rows(&p.name, repeated, row(8, unlisted(p.class), numbers))
+}
+
+// Row 11.
+pub fn factor_outside(f: Factor) -> bool
+    ensures { λ r. ⌜ r ≡ factorOutside f ⌝ }
+{
+    beyond(10_000, wide16(f.factor))
+}
