@@ -6,6 +6,7 @@ use mathlib.Core.Logic.{_⊎_, inl, inr}
 use Prim.Native.Nat.{ℕ, _+_, _*_, _^_, _<_, _≤_}
 use native.Mathlib.Nat.{le-trans, lt-of-le-of-lt, add-le-add, mul-le-mul}
 use native.Mathlib.Omega.{arith}
+use borrow.Author.Tests.{ltb-true}
 use lib.Dec.{T, ltb, ltb→lt}
 use lib.IntN.{ℤ, pos, negsuc, natAbs, _+ℤ_, _-ℤ_, _*ℤ_}
 use lib.Signed.{_≤ℤ_, _<ℤ_, leZ, ltZ, mag}
@@ -131,3 +132,18 @@ sub {x = x} {y = y} n k l = op (rw (n .is, k .is)) (le-trans (abs-sub x y) (add-
 
 pub mul : {p q x y : ℤ} {A B : ℕ} → Num p x A → Num q y B → A * B < 2 ^ 63 → Op (p *ℤ q) (x *ℤ y) (A * B)
 mul {x = x} {y = y} {A = A} {B = B} n k l = op (rw (n .is, k .is)) (omega (arith, abs-mul x y, mul-le-mul (n .abs) (k .abs))) l
+
+-- what the test `z < 0` says of a number's form
+below-zero : (z : ℤ) → mag z < 2 ^ 63 → ltZ z (pos 0) ≡ true → (n : ℕ) × (z ≡ negsuc n) × (n < 2 ^ 63)
+below-zero (pos n) h t = absurd (let k : n < 0 = ltb-true n 0 t in omega arith)
+below-zero (negsuc n) h t = (n, refl, h)
+
+not-below-zero : (z : ℤ) → mag z < 2 ^ 63 → ltZ z (pos 0) ≡ false → (n : ℕ) × (z ≡ pos n) × (n < 2 ^ 63)
+not-below-zero (pos n) h t = (n, refl, h)
+not-below-zero (negsuc n) h t = absurd (let z : _≡_ {A = ℕ} 0 1 = cc in omega arith)
+
+pub negative : (z : ℤ) → SFits w64 z → ltZ (rd z) (pos 0) ≡ true → (n : ℕ) × (z ≡ negsuc n) × (n < 2 ^ 63)
+negative z f t = below-zero z (f .sfits) (rw (toZ-ofZ f) at t)
+
+pub not-negative : (z : ℤ) → SFits w64 z → ltZ (rd z) (pos 0) ≡ false → (n : ℕ) × (z ≡ pos n) × (n < 2 ^ 63)
+not-negative z f t = not-below-zero z (f .sfits) (rw (toZ-ofZ f) at t)
