@@ -1,10 +1,13 @@
--- Rows 6 to 9 and 11 of one record, by its fields (document 01, 'Where each refusal is checked'). Assumes nothing.
+-- Rows 6 to 11 of one record, by its fields (document 01, 'Where each refusal is checked'). Assumes nothing.
 use Prim.Native.Nat.{ℕ}
 use mathlib.Core.Bool.{Bool, false, not, _||_, cond}
-use mathlib.Core.List.{List}
-use lib.Dec.{eqb, ltb}
+use mathlib.Core.List.{List, [], _∷_}
+use lib.Dec.{eqb, leb, ltb}
 use lib.IntN.{ℤ, natAbs}
-use Rattle.names.specs.Names.{nameOk}
+use lib.ListN.{length, getD}
+use Rattle.names.specs.Names.{nameOk, sameList}
+use Rattle.due.specs.declared.Due.{Due}
+use Rattle.due.specs.Due.{noDue}
 use Rattle.records.specs.declared.Head.{Head}
 use Rattle.records.specs.declared.Zone.{Zone}
 use Rattle.records.specs.declared.Unit.{Unit}
@@ -13,6 +16,7 @@ use Rattle.records.specs.declared.Place.the-variants.{Proxy, Line}
 use Rattle.records.specs.declared.Point.{Point}
 use Rattle.records.specs.declared.Par.{Par}
 use Rattle.records.specs.declared.Factor.{Factor}
+use Rattle.records.specs.Content.{bears}
 
 -- the row of this number where its condition is met, else what the rows below it say; 0 where no row fits
 abbrev pub row : ℕ → Bool → ℕ → ℕ
@@ -28,6 +32,11 @@ beyond most z = ltb most (natAbs z)
 -- row 6: first byte zero, or non-zero after a zero
 abbrev pub badName : List ℕ → Bool
 badName name = not (nameOk name)
+
+-- row 7: same name earlier in the same kind, where the earlier ones are these
+unfoldable pub oneOf : List ℕ → List (List ℕ) → Bool
+oneOf name [] = false
+oneOf name (other ∷ names) = sameList other name || oneOf name names
 
 -- row 8: RTO, type or class not listed
 abbrev pub unlisted : ℕ → Bool
@@ -58,7 +67,15 @@ pointOutside p = ltb 200000 (p .import) || ltb 200000 (p .export)
 abbrev pub parOutside : Par → Bool
 parOutside p = beyond 200000 (p .actual) || beyond 200000 (p .target)
 
--- `repeated`, row 7: the same name stands earlier in the same kind. A sheet's one head has no other before it
+-- row 10: target, subject, index not the ones due, or none due. `due` lists what is due, of which n are there already
+abbrev pub notDue : List Due → ℕ → Factor → Bool
+notDue due n f = leb (length due) n || not (bears f (getD due n noDue .target) (getD due n noDue .subject) (getD due n noDue .index))
+
+-- row 11: factor outside ±10,000
+abbrev pub factorOutside : Factor → Bool
+factorOutside f = beyond 10000 (f .factor)
+
+-- A record's rows, in the table's order. `repeated` is row 7; a sheet's one head has no other before it
 unfoldable pub headRow : Head → ℕ
 headRow h = row 6 (badName (h .name)) (row 8 (unlisted (h .«monitoring_rto»)) (row 9 (headOutside h) 0))
 
@@ -75,6 +92,5 @@ pointRow zones repeated p =
 unfoldable pub parRow : Bool → Par → ℕ
 parRow repeated p = row 6 (badName (p .name)) (row 7 repeated (row 8 (unlisted (p .class)) (row 9 (parOutside p) 0)))
 
--- row 11: factor outside ±10,000
-abbrev pub factorOutside : Factor → Bool
-factorOutside f = beyond 10000 (f .factor)
+unfoldable pub factorRow : List Due → ℕ → Factor → ℕ
+factorRow due n f = row 10 (notDue due n f) (row 11 (factorOutside f) 0)

@@ -1,6 +1,10 @@
-// Rows 6 to 9 and 11 of one record, by its fields.
+// Rows 6 to 11 of one record, by its fields.
 ghost use mathlib.Core.Path.{_≡_};
-ghost use Rattle.records.specs.Rows.{row, outside, beyond, badName, unlisted, noZoneOf, placeUnknown, headRow, zoneRow, unitRow, pointRow, parRow, factorOutside};
+ghost use mathlib.Core.Bool.{not};
+ghost use Prim.Native.Nat.{_≤_};
+ghost use Rattle.due.specs.Due.{dueList};
+ghost use Rattle.records.specs.Content.{bears};
+ghost use Rattle.records.specs.Rows.{row, outside, beyond, badName, unlisted, noZoneOf, placeUnknown, headRow, zoneRow, unitRow, pointRow, parRow, factorOutside, factorRow};
 
 use super::{Factor, Head, Par, Place, Point, Unit, Zone};
 
@@ -102,9 +106,27 @@ pub fn par_row(repeated: bool, p: Par) -> u8
     name_rows(&p.name, repeated, row(8, unlisted(p.class), numbers))
 }
 
-// Row 11.
-pub fn factor_outside(f: Factor) -> bool
+fn factor_outside(f: Factor) -> bool
     ensures { λ r. ⌜ r ≡ factorOutside f ⌝ }
 {
     beyond(10_000, wide16(f.factor))
+}
+
+// Whether the factor is the one for d.
+fn bears(f: Factor, d: due::Due) -> bool
+    ensures { λ r. ⌜ r ≡ bears f (d .target) (d .subject) (d .index) ⌝ }
+{
+    (f.target as usize == d.target) & ((f.subject == d.subject) & (f.index as usize == d.index))
+}
+
+// Rows 10 and 11 of the factor behind n others.
+pub fn factor_row(zones: usize, units: usize, points: usize, pars: usize, n: usize, f: Factor) -> u8
+    requires { ⌜ (units ≤ 256) × (zones ≤ 32) × (points ≤ 32) × (pars ≤ 8) ⌝ }
+    ensures { λ r. ⌜ r ≡ factorRow (dueList zones units points pars) n f ⌝ }
+{
+    if due::due_count(zones, units, points, pars) <= n {
+        return 10;
+    }
+    let d = due::due_at(zones, units, points, pars, n);
+    row(10, !bears(f, d), row(11, factor_outside(f), 0))
 }
