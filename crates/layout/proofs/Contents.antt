@@ -6,11 +6,11 @@ use mathlib.Core.List.{List, [], _∷_, _++_, append-nil}
 use native.Mathlib.Numerals.{add-one}
 use native.Mathlib.Omega.{arith}
 use lib.Dec.{eqb}
-use lib.ListN.{length, take, drop, getD}
+use lib.ListN.{length, drop, getD}
 use borrow.Author.Tests.{eqb-true, eqb-false}
 use Rattle.due.specs.Due.{tab}
 use Rattle.due.proofs.Laws.{below-or, length-tab}
-use Rattle.records.specs.Bodies.{byKind, bodyLength, headOf, zoneOf, unitOf, pointOf, parOf, factorOf}
+use Rattle.records.specs.Bodies.{byKind, bodyIn, headOf, zoneOf, unitOf, pointOf, parOf, factorOf}
 use Rattle.records.specs.Content.{Content, onlyIf, noContent, withRecord}
 use Rattle.layout.specs.declared.Layout.{Layout}
 use Rattle.layout.specs.Layout.{count, counted, noRecords, size, firstOf, startOf, bodyAt, contentAt, layoutOf}
@@ -47,7 +47,7 @@ tab-next f n = rw add-one
 
 module _ (s : List ℕ) (l : Layout) (last at kind : ℕ) (v : Laid l last at) (low : 1 ≤ kind) (high : kind ≤ 6) (order : last ≤ kind) where
   abbrev body : List ℕ
-  body = take (bodyLength kind) (drop (at + 1) s)
+  body = bodyIn kind (drop (at + 1) s)
 
   module _ {A : Type 0} (f : List ℕ → A) where
     list-by : (j : ℕ) → j ≤ 6 → (b : Bool) → eqb kind j ≡ b → listOf f s (counted l kind) j ≡ listOf f s l j ++ onlyIf b (f body)

@@ -8,9 +8,9 @@ use lib.ListN.{take, drop}
 use lib.Seq.{take-take}
 use Rattle.names.specs.Names.{nameAt, sameList, ifB, among}
 use Rattle.due.specs.Due.{tab}
-use Rattle.records.specs.Bodies.{byKind, bodyLength, headOf, zoneOf, unitOf, pointOf, parOf}
+use Rattle.records.specs.Bodies.{byKind, bodyLength, bodyIn, headOf, zoneOf, unitOf, pointOf, parOf}
 use Rattle.records.specs.Content.{namesOf}
-use Rattle.records.specs.Rows.{oneOf}
+use Rattle.records.specs.Rows.{oneOf, repeats}
 use Rattle.layout.specs.declared.Layout.{Layout}
 use Rattle.layout.specs.Layout.{count, size, firstOf, startOf, bodyAt, contentAt}
 use Rattle.layout.proofs.ByKind.{kinds}
@@ -74,19 +74,22 @@ module _ (s : List ℕ) (l : Layout) where
       (λ x. absurd (omega arith))
       k g (omega arith) h
 
-  -- factors have no names
-  pub no-names : (x : List ℕ) → oneOf x (namesOf (contentAt s l) 6) ≡ false
-  unfolding namesOf byKind oneOf
-  no-names x = refl
+  same-name : (kind at : ℕ) → 1 ≤ kind → kind ≤ 5 → nameAt s at ≡ nameAt (bodyIn kind (drop at s)) 0
+  same-name k at g h = sym (take-take 16 (bodyLength k) (drop at s) (name-room k g h))
 
-  -- row 7 at the places
-  pub repeated-at : (x : List ℕ) (kind : ℕ) → 1 ≤ kind → kind ≤ 5 → among s x (firstOf l kind + 1) (size kind) (count l kind) ≡ oneOf x (namesOf (contentAt s l) kind)
-  repeated-at x k g h =
-      rw (names-at k g h)
-      (among-is s x (firstOf l k + 1) (size k) (count l k)
-      ∙ ap (oneOf x) (tab-same (λ i. nameAt s (firstOf l k + 1 + size k * i)) (λ i. nameAt (bodyAt s l k i) 0) (count l k) (λ i. moved i)))
+  -- row 7 at the places: of a record whose body stands at `from`
+  pub repeated-at : (kind from : ℕ) → 1 ≤ kind → kind ≤ 5 → among s (nameAt s from) (firstOf l kind + 1) (size kind) (count l kind) ≡ repeats (contentAt s l) kind (bodyIn kind (drop from s))
+  repeated-at k from g h =
+      rw (names-at k g h, ← same-name k from g h)
+      (among-is s (nameAt s from) (firstOf l k + 1) (size k) (count l k)
+      ∙ ap (oneOf (nameAt s from)) (tab-same (λ i. nameAt s (firstOf l k + 1 + size k * i)) (λ i. nameAt (bodyAt s l k i) 0) (count l k) (λ i. moved i)))
     where
       moved : (i : ℕ) → nameAt s (firstOf l k + 1 + size k * i) ≡ nameAt (bodyAt s l k i) 0
       moved i =
-          let e : firstOf l k + 1 + size k * i ≡ firstOf l k + size k * i + 1 = omega arith in
-          rw e (sym (take-take 16 (bodyLength k) (drop (firstOf l k + size k * i + 1) s) (name-room k g h)))
+          let e : firstOf l k + 1 + size k * i ≡ startOf l k i + 1 = omega arith in
+          rw e (same-name k (startOf l k i + 1) g h)
+
+  -- factors have no names
+  pub repeated-never : (from : ℕ) → repeats (contentAt s l) 6 (bodyIn 6 (drop from s)) ≡ false
+  unfolding namesOf byKind oneOf
+  repeated-never from = refl

@@ -1,12 +1,12 @@
 -- Where the records of a sheet stand, by how many there are of each kind. Assumes nothing.
-use Prim.Native.Nat.{ℕ, zero, suc, _+_, _*_, _<_}
+use Prim.Native.Nat.{ℕ, zero, suc, _+_, _*_, _≤_, _<_}
 use mathlib.Core.Path.{_≡_}
 use mathlib.Core.Bool.{Bool, true, false, toNat}
 use mathlib.Core.List.{List}
 use lib.Dec.{eqb}
-use lib.ListN.{length, take, drop}
+use lib.ListN.{length, drop}
 use Rattle.due.specs.Due.{tab}
-use Rattle.records.specs.Bodies.{byKind, bodyLength, headOf, zoneOf, unitOf, pointOf, parOf, factorOf}
+use Rattle.records.specs.Bodies.{byKind, bodyLength, bodyIn, headOf, zoneOf, unitOf, pointOf, parOf, factorOf}
 use Rattle.records.specs.Content.{Content}
 use Rattle.layout.specs.declared.Layout.{Layout}
 
@@ -20,6 +20,14 @@ noRecords = record { heads = 0; zones = 0; units = 0; points = 0; pars = 0; fact
 -- how many there are of a kind
 abbrev pub count : Layout → ℕ → ℕ
 count l kind = byKind kind (l .heads) (l .zones) (l .units) (l .points) (l .pars) (l .factors) 0
+
+-- no more than allowed: one head, 32 zones, 256 units, 32 points, 8 PARs
+pub record Allowed (l : Layout) : Type 0 where
+  pub heads : l .heads ≤ 1
+  pub zones : l .zones ≤ 32
+  pub units : l .units ≤ 256
+  pub points : l .points ≤ 32
+  pub pars : l .pars ≤ 8
 
 -- one more of a kind
 unfoldable pub counted : Layout → ℕ → Layout
@@ -50,7 +58,7 @@ extent l = firstOf l 7
 
 -- the body of the i-th record of a kind
 abbrev pub bodyAt : List ℕ → Layout → ℕ → ℕ → List ℕ
-bodyAt s l kind i = take (bodyLength kind) (drop (startOf l kind i + 1) s)
+bodyAt s l kind i = bodyIn kind (drop (startOf l kind i + 1) s)
 
 -- what the records at these places hold
 unfoldable pub contentAt : List ℕ → Layout → Content

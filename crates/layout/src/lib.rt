@@ -1,11 +1,9 @@
 // Where the records of a sheet stand. The sheet stays as it is: a layout says how many records there are of each kind.
 ghost use mathlib.Core.Path.{_≡_};
 ghost use Prim.Native.Nat.{_+_, _*_, _≤_, _<_, _^_};
-ghost use lib.ListN.{length};
-ghost use Rattle.names.specs.Names.{nameAt};
-ghost use Rattle.records.specs.Bodies.{bodyLength};
-ghost use Rattle.records.specs.Content.{namesOf};
-ghost use Rattle.records.specs.Rows.{oneOf};
+ghost use lib.ListN.{length, drop};
+ghost use Rattle.records.specs.Bodies.{bodyIn};
+ghost use Rattle.records.specs.Rows.{repeats};
 ghost use Rattle.layout.specs.Layout.{one, count, counted, size, firstOf, startOf, extent, bodyAt, contentAt};
 
 pub struct Layout {
@@ -37,7 +35,7 @@ fn one_if(met: bool) -> usize
 
 // One record of a kind more.
 pub fn counted(l: Layout, kind: u8) -> Layout
-    requires { ⌜ extent l < 2 ^ 63 ⌝ }
+    requires { ⌜ extent l < 2 ^ 64 ⌝ }
     ensures { λ r. ⌜ r ≡ counted l kind ⌝ }
 {
     Layout {
@@ -76,7 +74,7 @@ pub fn body_at(s: &[u8], l: Layout, kind: u8, i: usize) -> &[u8]
 // Whether the record at `at`, behind the others of its kind, has the name of one of them.
 pub fn repeated(s: &[u8], l: Layout, kind: u8, at: usize) -> bool
     requires { ⌜ (1 ≤ kind) × (kind ≤ 6) × (at ≡ startOf l kind (count l kind)) × (at + size kind ≤ length (now s)) ⌝ }
-    ensures { λ r. ⌜ r ≡ oneOf (nameAt (now (s .entry)) (at + 1)) (namesOf (contentAt (now (s .entry)) l) kind) ⌝ }
+    ensures { λ r. ⌜ r ≡ repeats (contentAt (now (s .entry)) l) kind (bodyIn kind (drop (at + 1) (now (s .entry)))) ⌝ }
 {
     if kind == 6 {
         return false;

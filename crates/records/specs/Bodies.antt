@@ -3,6 +3,7 @@ use Prim.Native.Nat.{ℕ}
 use mathlib.Core.Bool.{cond}
 use mathlib.Core.List.{List}
 use lib.Dec.{eqb}
+use lib.ListN.{take}
 use Rattle.fields.specs.Fields.{byteAt, be16, be32, sbe16, sbe32}
 use Rattle.names.specs.Names.{nameAt}
 use Rattle.records.specs.declared.Head.{Head}
@@ -26,6 +27,10 @@ byKind kind head zone unit point par factor none =
 
 abbrev pub bodyLength : ℕ → ℕ
 bodyLength kind = byKind kind 27 24 21 26 25 6 0
+
+-- the body of a record: as many of the bytes r behind its kind byte as the kind fixes
+abbrev pub bodyIn : ℕ → List ℕ → List ℕ
+bodyIn kind r = take (bodyLength kind) r
 
 -- a point's place: a proxy (0), or a scheduled line that ends in the zone of that number
 abbrev pub placeOf : ℕ → Place

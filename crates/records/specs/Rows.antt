@@ -5,7 +5,7 @@ use mathlib.Core.List.{List, [], _∷_}
 use lib.Dec.{eqb, leb, ltb}
 use lib.IntN.{ℤ, natAbs}
 use lib.ListN.{length, getD}
-use Rattle.names.specs.Names.{nameOk, sameList}
+use Rattle.names.specs.Names.{nameOk, sameList, nameAt}
 use Rattle.due.specs.declared.Due.{Due}
 use Rattle.due.specs.Due.{noDue}
 use Rattle.records.specs.declared.Head.{Head}
@@ -16,7 +16,7 @@ use Rattle.records.specs.declared.Place.the-variants.{Proxy, Line}
 use Rattle.records.specs.declared.Point.{Point}
 use Rattle.records.specs.declared.Par.{Par}
 use Rattle.records.specs.declared.Factor.{Factor}
-use Rattle.records.specs.Content.{bears}
+use Rattle.records.specs.Content.{Content, namesOf, bears}
 
 -- the row of this number where its condition is met, else what the rows below it say; 0 where no row fits
 abbrev pub row : ℕ → Bool → ℕ → ℕ
@@ -33,10 +33,13 @@ beyond most z = ltb most (natAbs z)
 abbrev pub badName : List ℕ → Bool
 badName name = not (nameOk name)
 
--- row 7: same name earlier in the same kind, where the earlier ones are these
 unfoldable pub oneOf : List ℕ → List (List ℕ) → Bool
 oneOf name [] = false
 oneOf name (other ∷ names) = sameList other name || oneOf name names
+
+-- row 7: same name earlier in the same kind. A name stands first in its body; c is what stands earlier
+abbrev pub repeats : Content → ℕ → List ℕ → Bool
+repeats c kind b = oneOf (nameAt b 0) (namesOf c kind)
 
 -- row 8: RTO, type or class not listed
 abbrev pub unlisted : ℕ → Bool

@@ -14,7 +14,7 @@ pub fn row(number: u8, met: bool, below: u8) -> u8
     if met { number } else { below }
 }
 
-fn outside(low: u32, n: u32, high: u32) -> bool
+fn outside(low: usize, n: usize, high: usize) -> bool
     ensures { λ r. ⌜ r ≡ outside low n high ⌝ }
 {
     (n < low) | (high < n)
@@ -43,16 +43,16 @@ fn wide16(z: i16) -> i64
 fn unlisted(code: u8) -> bool
     ensures { λ r. ⌜ r ≡ unlisted code ⌝ }
 {
-    outside(1, code as u32, 2)
+    outside(1, code as usize, 2)
 }
 
-fn no_zone_of(zones: u32, n: u8) -> bool
+fn no_zone_of(zones: usize, n: u8) -> bool
     ensures { λ r. ⌜ r ≡ noZoneOf zones n ⌝ }
 {
-    outside(1, n as u32, zones)
+    outside(1, n as usize, zones)
 }
 
-fn place_unknown(zones: u32, place: Place) -> bool
+fn place_unknown(zones: usize, place: Place) -> bool
     ensures { λ r. ⌜ r ≡ placeUnknown zones place ⌝ }
 {
     match place {
@@ -72,7 +72,7 @@ pub fn head_row(h: Head) -> u8
     ensures { λ r. ⌜ r ≡ headRow h ⌝ }
 {
     let prices = (400_000 < h.monitoring_price) | (400_000 < h.nonmonitoring_price);
-    let numbers = row(9, outside(1, h.seconds as u32, 900) | prices, 0);
+    let numbers = row(9, outside(1, h.seconds as usize, 900) | prices, 0);
     name_rows(&h.name, false, row(8, unlisted(h.monitoring_rto), numbers))
 }
 
@@ -83,14 +83,14 @@ pub fn zone_row(repeated: bool, z: Zone) -> u8
     name_rows(&z.name, repeated, numbers)
 }
 
-pub fn unit_row(zones: u32, repeated: bool, u: Unit) -> u8
+pub fn unit_row(zones: usize, repeated: bool, u: Unit) -> u8
     ensures { λ r. ⌜ r ≡ unitRow zones repeated u ⌝ }
 {
     let numbers = row(9, 2_000_000 < u.output, 0);
     name_rows(&u.name, repeated, row(8, no_zone_of(zones, u.zone), numbers))
 }
 
-pub fn point_row(zones: u32, repeated: bool, p: Point) -> u8
+pub fn point_row(zones: usize, repeated: bool, p: Point) -> u8
     ensures { λ r. ⌜ r ≡ pointRow zones repeated p ⌝ }
 {
     let numbers = row(9, (200_000 < p.import) | (200_000 < p.export), 0);

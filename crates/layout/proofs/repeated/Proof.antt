@@ -1,5 +1,5 @@
+use Rattle.layout.proofs.Names.{name-room, repeated-never, repeated-at}
 use Prim.Native.Nat.{_-_}
-use Rattle.layout.proofs.Names.{name-room, no-names, repeated-at}
 use Rattle.layout.specs.Layout.{firstOf}
 use denote.Ref.{now}
 use lib.ListN.{length}
@@ -23,7 +23,7 @@ behind c = rw (c .size-of .ensures .0, c .before .count-of .ensures) (c .before 
 returns : tie.Need-returns
 returns c =
     let p = c .before .before .args in
-    rw (c .if1 .taken) (sym (no-names (now (p .s)) (p .l) _))
+    rw (c .if1 .taken) (sym (repeated-never (now (p .s)) (p .l) (p .at + 1)))
 
 -- src/lib.rt:83:9
 count-of-requires : tie.Need-count-of-requires
@@ -62,7 +62,7 @@ returns-2 c =
     let p = b .before .before .before .before in
     let a = p .args in
     let f : a .at - b .size-of .result * b .before .count-of .result + 1 ≡ firstOf (a .l) (a .kind) + 1 = omega (arith, behind b) in
-    rw (f, b .size-of .ensures .0, b .before .count-of .ensures) at (c .seen .ensures) ∙ repeated-at (now (a .s)) (a .l) _ (a .kind) (p .pre .0) (omega arith)
+    rw (← repeated-at (now (a .s)) (a .l) (a .kind) (a .at + 1) (p .pre .0) (omega arith)) (rw (f, b .size-of .ensures .0, b .before .count-of .ensures) at (c .seen .ensures))
 
 pub repeated-spec : {M : Type 1} → statement M
 repeated-spec =
