@@ -1,3 +1,4 @@
 pub mod Front
 pub mod Walk
 pub mod Reach
+pub mod Told
