@@ -2,26 +2,14 @@
 use Prim.Native.Nat.{ℕ, zero, suc, _+_, _≤_, _<_}
 use mathlib.Core.Path.{_≡_, refl, sym, ap, _∙_}
 use mathlib.Core.Bool.{Bool, true, false, _&&_, _||_, cond}
-use native.Mathlib.Nat.{suc-ne-zero}
 use native.Mathlib.Omega.{arith}
 use lib.Dec.{eqb, leb, ltb}
 use borrow.Author.Tests.{ltb-false, leb-false, eq-eqb}
 use Rattle.records.specs.Bodies.{bodyLength}
 use Rattle.records.specs.Rows.{row}
+use Rattle.records.proofs.Passes.{row-pass, neither}
 use Rattle.layout.specs.declared.Layout.{Layout}
 use Rattle.sheet.specs.Sheet.{unknownKind, cutShort, outOfOrder, oneTooMany, frontRow}
-
--- no row of a chain fits
-pub row-pass : (n : ℕ) (met : Bool) (below : ℕ) → row (suc n) met below ≡ 0 → (met ≡ false) × (below ≡ 0)
-row-pass n true m e = absurd (suc-ne-zero n e)
-row-pass n false m e = (refl, e)
-
-pub neither : (a b : Bool) → (a || b) ≡ false → (a ≡ false) × (b ≡ false)
-neither true b e = (e, absurd (true-not e))
-  where
-    true-not : true ≡ false → ⊥
-    true-not q = let z : _≡_ {A = ℕ} 0 1 = cc in omega arith
-neither false b e = (refl, e)
 
 pub record Fronted (l : Layout) (last kind left : ℕ) : Type 0 where
   pub low : 1 ≤ kind

@@ -2,3 +2,4 @@ pub mod Front
 pub mod Walk
 pub mod Reach
 pub mod Told
+pub mod Each
