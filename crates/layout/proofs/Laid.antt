@@ -16,8 +16,9 @@ pub record Laid (l : Layout) (last at : ℕ) : Type 0 where
 pub laid-none : Laid noRecords 0 0
 unfolding firstOf byKind
 laid-none = record {
-    here = refl;
-    above = λ k g h. kinds (λ (k : ℕ). count noRecords k ≡ 0) refl refl refl refl refl refl k g h }
+  here = refl;
+  above = λ k g h. kinds (λ (k : ℕ). count noRecords k ≡ 0) refl refl refl refl refl refl k g h;
+}
 
 module _ (l : Layout) (last at kind : ℕ) (v : Laid l last at) (low : 1 ≤ kind) (high : kind ≤ 6) (order : last ≤ kind) where
   -- the next record stands behind the others of its kind
@@ -32,7 +33,8 @@ module _ (l : Layout) (last at kind : ℕ) (v : Laid l last at) (low : 1 ≤ kin
 
   pub laid-next : Laid (counted l kind) kind (at + 1 + bodyLength kind)
   laid-next = record {
-      here =
+    here =
         first-flat (counted l kind) kind 7 (omega arith) (λ j p q. above-none j p (omega arith))
         ∙ rw (first-agree l (counted l kind) kind below-same, count-same l kind low high) (omega (arith, laid-at));
-      above = above-none }
+    above = above-none;
+  }

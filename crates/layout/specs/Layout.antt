@@ -32,12 +32,13 @@ pub record Allowed (l : Layout) : Type 0 where
 -- one more of a kind
 unfoldable pub counted : Layout → ℕ → Layout
 counted l kind = record {
-    heads = l .heads + one (eqb kind 1);
-    zones = l .zones + one (eqb kind 2);
-    units = l .units + one (eqb kind 3);
-    points = l .points + one (eqb kind 4);
-    pars = l .pars + one (eqb kind 5);
-    factors = l .factors + one (eqb kind 6) }
+  heads = l .heads + one (eqb kind 1);
+  zones = l .zones + one (eqb kind 2);
+  units = l .units + one (eqb kind 3);
+  points = l .points + one (eqb kind 4);
+  pars = l .pars + one (eqb kind 5);
+  factors = l .factors + one (eqb kind 6);
+}
 
 -- a record is one byte of kind, then a body
 abbrev pub size : ℕ → ℕ
@@ -63,18 +64,20 @@ bodyAt s l kind i = bodyIn kind (drop (startOf l kind i + 1) s)
 -- what the records at these places hold
 unfoldable pub contentAt : List ℕ → Layout → Content
 contentAt s l = record {
-    heads = tab (λ i. headOf (bodyAt s l 1 i)) (l .heads);
-    zones = tab (λ i. zoneOf (bodyAt s l 2 i)) (l .zones);
-    units = tab (λ i. unitOf (bodyAt s l 3 i)) (l .units);
-    points = tab (λ i. pointOf (bodyAt s l 4 i)) (l .points);
-    pars = tab (λ i. parOf (bodyAt s l 5 i)) (l .pars);
-    factors = tab (λ i. factorOf (bodyAt s l 6 i)) (l .factors) }
+  heads = tab (λ i. headOf (bodyAt s l 1 i)) (l .heads);
+  zones = tab (λ i. zoneOf (bodyAt s l 2 i)) (l .zones);
+  units = tab (λ i. unitOf (bodyAt s l 3 i)) (l .units);
+  points = tab (λ i. pointOf (bodyAt s l 4 i)) (l .points);
+  pars = tab (λ i. parOf (bodyAt s l 5 i)) (l .pars);
+  factors = tab (λ i. factorOf (bodyAt s l 6 i)) (l .factors);
+}
 
 unfoldable pub layoutOf : Content → Layout
 layoutOf c = record {
-    heads = length (c .heads);
-    zones = length (c .zones);
-    units = length (c .units);
-    points = length (c .points);
-    pars = length (c .pars);
-    factors = length (c .factors) }
+  heads = length (c .heads);
+  zones = length (c .zones);
+  units = length (c .units);
+  points = length (c .points);
+  pars = length (c .pars);
+  factors = length (c .factors);
+}

@@ -18,7 +18,16 @@ pub struct Layout {
 pub fn count_of(l: Layout, kind: u8) -> usize
     ensures { λ r. ⌜ r ≡ count l kind ⌝ }
 {
-    records::bodies::by_kind(kind, l.heads, l.zones, l.units, l.points, l.pars, l.factors, 0)
+    records::bodies::by_kind(
+        kind,
+        l.heads,
+        l.zones,
+        l.units,
+        l.points,
+        l.pars,
+        l.factors,
+        0,
+    )
 }
 
 fn size_of(kind: u8) -> usize

@@ -54,38 +54,39 @@ unfolding headRow
 head-pass h e =
     named (h .name) false _ e
     (λ e.
-      let a = row-pass 7 (unlisted (h .«monitoring_rto»)) _ e in
-      let b = row-pass 8 (headOutside h) 0 (a .1) in
-      let r = within 1 (h .«monitoring_rto») 2 (a .0) in
-      let x = neither (outside 1 (h .seconds) 900) _ (b .0) in
-      let s = within 1 (h .seconds) 900 (x .0) in
-      let p = neither (ltb 400000 (h .«monitoring_price»)) (ltb 400000 (h .«nonmonitoring_price»)) (x .1) in
-      record {
-        rto-least = r .0;
-        rto-most = r .1;
-        seconds-least = s .0;
-        seconds-most = s .1;
-        monitoring-price = ltb-false _ _ (p .0);
-        nonmonitoring-price = ltb-false _ _ (p .1) })
+    let a = row-pass 7 (unlisted (h .«monitoring_rto»)) _ e in
+    let b = row-pass 8 (headOutside h) 0 (a .1) in
+    let r = within 1 (h .«monitoring_rto») 2 (a .0) in
+    let x = neither (outside 1 (h .seconds) 900) _ (b .0) in
+    let s = within 1 (h .seconds) 900 (x .0) in
+    let p = neither (ltb 400000 (h .«monitoring_price»)) (ltb 400000 (h .«nonmonitoring_price»)) (x .1) in
+    record {
+      rto-least = r .0;
+      rto-most = r .1;
+      seconds-least = s .0;
+      seconds-most = s .1;
+      monitoring-price = ltb-false _ _ (p .0);
+      nonmonitoring-price = ltb-false _ _ (p .1);
+    })
 
 pub zone-pass : (repeated : Bool) (z : Zone) → zoneRow repeated z ≡ 0 → Passes (z .name) repeated (ZoneFits z)
 unfolding zoneRow
 zone-pass r z e =
     named (z .name) r _ e
     (λ e.
-      let a = row-pass 8 (zoneOutside z) 0 e in
-      let x = neither (ltb 2000000 (z .load)) (ltb 2000000 (z .losses)) (a .0) in
-      record { load = ltb-false _ _ (x .0); losses = ltb-false _ _ (x .1) })
+    let a = row-pass 8 (zoneOutside z) 0 e in
+    let x = neither (ltb 2000000 (z .load)) (ltb 2000000 (z .losses)) (a .0) in
+    record { load = ltb-false _ _ (x .0); losses = ltb-false _ _ (x .1) })
 
 pub unit-pass : (zones : ℕ) (repeated : Bool) (u : Unit) → unitRow zones repeated u ≡ 0 → Passes (u .name) repeated (UnitFits zones u)
 unfolding unitRow
 unit-pass zones r u e =
     named (u .name) r _ e
     (λ e.
-      let a = row-pass 7 (noZoneOf zones (u .zone)) _ e in
-      let b = row-pass 8 (unitOutside u) 0 (a .1) in
-      let z = within 1 (u .zone) zones (a .0) in
-      record { zone-least = z .0; zone-most = z .1; output = ltb-false _ _ (b .0) })
+    let a = row-pass 7 (noZoneOf zones (u .zone)) _ e in
+    let b = row-pass 8 (unitOutside u) 0 (a .1) in
+    let z = within 1 (u .zone) zones (a .0) in
+    record { zone-least = z .0; zone-most = z .1; output = ltb-false _ _ (b .0) })
 
 place-known : (zones : ℕ) (p : Place) → placeUnknown zones p ≡ false → (n : ℕ) → p ≡ Line n → LineFits zones n
 place-known zones Proxy e n q = let z : _≡_ {A = ℕ} 0 1 = cc in absurd (omega arith)
@@ -99,28 +100,29 @@ unfolding pointRow
 point-pass zones r p e =
     named (p .name) r _ e
     (λ e.
-      let a = row-pass 7 (unlisted (p .sort) || placeUnknown zones (p .place)) _ e in
-      let b = row-pass 8 (pointOutside p) 0 (a .1) in
-      let x = neither (unlisted (p .sort)) (placeUnknown zones (p .place)) (a .0) in
-      let s = within 1 (p .sort) 2 (x .0) in
-      let y = neither (ltb 200000 (p .import)) (ltb 200000 (p .export)) (b .0) in
-      record {
-        sort-least = s .0;
-        sort-most = s .1;
-        place = place-known zones (p .place) (x .1);
-        import = ltb-false _ _ (y .0);
-        export = ltb-false _ _ (y .1) })
+    let a = row-pass 7 (unlisted (p .sort) || placeUnknown zones (p .place)) _ e in
+    let b = row-pass 8 (pointOutside p) 0 (a .1) in
+    let x = neither (unlisted (p .sort)) (placeUnknown zones (p .place)) (a .0) in
+    let s = within 1 (p .sort) 2 (x .0) in
+    let y = neither (ltb 200000 (p .import)) (ltb 200000 (p .export)) (b .0) in
+    record {
+      sort-least = s .0;
+      sort-most = s .1;
+      place = place-known zones (p .place) (x .1);
+      import = ltb-false _ _ (y .0);
+      export = ltb-false _ _ (y .1);
+    })
 
 pub par-pass : (repeated : Bool) (p : Par) → parRow repeated p ≡ 0 → Passes (p .name) repeated (ParFits p)
 unfolding parRow
 par-pass r p e =
     named (p .name) r _ e
     (λ e.
-      let a = row-pass 7 (unlisted (p .class)) _ e in
-      let b = row-pass 8 (parOutside p) 0 (a .1) in
-      let k = within 1 (p .class) 2 (a .0) in
-      let x = neither (beyond 200000 (p .actual)) (beyond 200000 (p .target)) (b .0) in
-      record { class-least = k .0; class-most = k .1; actual = ltb-false _ _ (x .0); target = ltb-false _ _ (x .1) })
+    let a = row-pass 7 (unlisted (p .class)) _ e in
+    let b = row-pass 8 (parOutside p) 0 (a .1) in
+    let k = within 1 (p .class) 2 (a .0) in
+    let x = neither (beyond 200000 (p .actual)) (beyond 200000 (p .target)) (b .0) in
+    record { class-least = k .0; class-most = k .1; actual = ltb-false _ _ (x .0); target = ltb-false _ _ (x .1) })
 
 -- a factor is the one due where n are there already
 pub record FactorFits (due : List Due) (n : ℕ) (f : Factor) : Type 0 where

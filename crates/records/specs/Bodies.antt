@@ -39,11 +39,12 @@ placeOf n = cond (eqb n 0) Proxy (Line n)
 -- the fields in order, from the body's first byte
 unfoldable pub headOf : List ℕ → Head
 headOf b = record {
-    name = nameAt b 0;
-    «monitoring_rto» = byteAt b 16;
-    seconds = be16 b 17;
-    «monitoring_price» = be32 b 19;
-    «nonmonitoring_price» = be32 b 23 }
+  name = nameAt b 0;
+  «monitoring_rto» = byteAt b 16;
+  seconds = be16 b 17;
+  «monitoring_price» = be32 b 19;
+  «nonmonitoring_price» = be32 b 23;
+}
 
 unfoldable pub zoneOf : List ℕ → Zone
 zoneOf b = record { name = nameAt b 0; load = be32 b 16; losses = be32 b 20 }

@@ -81,12 +81,13 @@ onlyIf false a = []
 -- the record of a kind with the body b goes behind the others of its kind
 unfoldable pub withRecord : Content → ℕ → List ℕ → Content
 withRecord c kind b = record {
-    heads = c .heads ++ onlyIf (eqb kind 1) (headOf b);
-    zones = c .zones ++ onlyIf (eqb kind 2) (zoneOf b);
-    units = c .units ++ onlyIf (eqb kind 3) (unitOf b);
-    points = c .points ++ onlyIf (eqb kind 4) (pointOf b);
-    pars = c .pars ++ onlyIf (eqb kind 5) (parOf b);
-    factors = c .factors ++ onlyIf (eqb kind 6) (factorOf b) }
+  heads = c .heads ++ onlyIf (eqb kind 1) (headOf b);
+  zones = c .zones ++ onlyIf (eqb kind 2) (zoneOf b);
+  units = c .units ++ onlyIf (eqb kind 3) (unitOf b);
+  points = c .points ++ onlyIf (eqb kind 4) (pointOf b);
+  pars = c .pars ++ onlyIf (eqb kind 5) (parOf b);
+  factors = c .factors ++ onlyIf (eqb kind 6) (factorOf b);
+}
 
 -- the names of a kind's records, in their order
 unfoldable pub namesOf : Content → ℕ → List (List ℕ)

@@ -4,8 +4,13 @@ ghost use Prim.Native.Nat.{_≤_};
 ghost use lib.ListN.{length};
 ghost use Rattle.names.specs.Names.{nameAt};
 ghost use Rattle.records.specs.Bodies.{byKind, bodyLength, placeOf, headOf, zoneOf, unitOf, pointOf, parOf, factorOf};
-
-use super::{Factor, Head, Par, Place, Point, Unit, Zone};
+use super::Factor;
+use super::Head;
+use super::Par;
+use super::Place;
+use super::Point;
+use super::Unit;
+use super::Zone;
 
 pub fn by_kind(
     kind: u8,
@@ -41,8 +46,22 @@ fn name_of(b: &[u8]) -> [u8; 16]
     ensures { λ r. ⌜ r ≡ nameAt (now (b .entry)) 0 ⌝ }
 {
     [
-        b[0], b[1], b[2], b[3], b[4], b[5], b[6], b[7], b[8], b[9], b[10], b[11], b[12], b[13],
-        b[14], b[15],
+        b[0],
+        b[1],
+        b[2],
+        b[3],
+        b[4],
+        b[5],
+        b[6],
+        b[7],
+        b[8],
+        b[9],
+        b[10],
+        b[11],
+        b[12],
+        b[13],
+        b[14],
+        b[15],
     ]
 }
 

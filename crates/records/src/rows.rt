@@ -5,8 +5,13 @@ ghost use Prim.Native.Nat.{_≤_};
 ghost use Rattle.due.specs.Due.{dueList};
 ghost use Rattle.records.specs.Content.{bears};
 ghost use Rattle.records.specs.Rows.{row, outside, beyond, badName, unlisted, noZoneOf, placeUnknown, headRow, zoneRow, unitRow, pointRow, parRow, factorOutside, factorRow};
-
-use super::{Factor, Head, Par, Place, Point, Unit, Zone};
+use super::Factor;
+use super::Head;
+use super::Par;
+use super::Place;
+use super::Point;
+use super::Unit;
+use super::Zone;
 
 pub fn row(number: u8, met: bool, below: u8) -> u8
     ensures { λ r. ⌜ r ≡ row number met below ⌝ }
@@ -87,7 +92,11 @@ pub fn unit_row(zones: usize, repeated: bool, u: Unit) -> u8
     ensures { λ r. ⌜ r ≡ unitRow zones repeated u ⌝ }
 {
     let numbers = row(9, 2_000_000 < u.output, 0);
-    name_rows(&u.name, repeated, row(8, no_zone_of(zones, u.zone), numbers))
+    name_rows(
+        &u.name,
+        repeated,
+        row(8, no_zone_of(zones, u.zone), numbers),
+    )
 }
 
 pub fn point_row(zones: usize, repeated: bool, p: Point) -> u8

@@ -54,8 +54,8 @@ module _ {A : Type 0} (kind : ℕ) (list : Content → List A) (of : List ℕ �
       (below-or i (length (list c))
       (λ a. rw (take-append-le i (list c) (of b ∷ []) (omega arith), List·getD-append (list c) (of b ∷ []) noA i a) (K .final (layoutOf c) (layoutOf d) f _ _ (q i a)))
       (λ a.
-        let z : i ≡ length (list c) = omega (arith, length-append (list c) (of b ∷ []), rw e at h) in
-        rw (z, take-append-seam (list c) (of b ∷ []), getD-append-seam (list c) (of b) [] noA) (K .final (layoutOf c) (layoutOf d) f _ _ p)))
+      let z : i ≡ length (list c) = omega (arith, length-append (list c) (of b ∷ []), rw e at h) in
+      rw (z, take-append-seam (list c) (of b ∷ []), getD-append-seam (list c) (of b) [] noA) (K .final (layoutOf c) (layoutOf d) f _ _ p)))
 
   moved : (c : Content) (k : ℕ) (b : List ℕ) → k ≡ kind → bodyRow (layoutOf c) k (repeats c k b) b ≡ 0 → bodyRow (layoutOf c) kind (repeats c kind b) b ≡ 0
   moved c k b q e = rw (← q) e
@@ -79,8 +79,8 @@ module _ {A : Type 0} (kind : ℕ) (list : Content → List A) (of : List ℕ �
         let l : list (withRecord c k b) ≡ list c = rw t at (K .grows c k b) ∙ append-nil (list c) in
         below-or k kind
         (λ a.
-          let z : count (layoutOf c) kind ≡ 0 = reach-laid s p .above kind (omega (arith, fronted s at last c h e .order)) (K .high) in
-          λ i g. absurd (omega (arith, ap length l, K .counts c)))
+        let z : count (layoutOf c) kind ≡ 0 = reach-laid s p .above kind (omega (arith, fronted s at last c h e .order)) (K .high) in
+        λ i g. absurd (omega (arith, ap length l, K .counts c)))
         (λ a. same c (withRecord c k b) l (λ j g. others j (omega (arith, K .high)) (λ y. omega arith)) q)
 
   pub each : {s : List ℕ} {at last : ℕ} {c : Content} → Passed s at last c → Each c
@@ -106,26 +106,45 @@ ParFine l before p = Passes (p .name) (oneOf (p .name) (map (λ (p : Par). p .na
 abbrev pub FactorFine : Layout → List Factor → Factor → Type 0
 FactorFine l before f = FactorFits (dueOf l) (length before) f
 
-heads : Kind 1 (λ c. c .heads) headOf HeadFine
+head-kind : Kind 1 (λ c. c .heads) headOf HeadFine
 unfolding withRecord layoutOf bodyRow byKind
-heads = record { high = omega arith; empty = refl; grows = λ c k b. refl; counts = λ c. refl; final = λ l m f before h p. p; passes = λ c b e. head-pass (headOf b) e }
+head-kind = record { high = omega arith; empty = refl; grows = λ c k b. refl; counts = λ c. refl; final = λ l m f before h p. p; passes = λ c b e. head-pass (headOf b) e }
 
-zones : Kind 2 (λ c. c .zones) zoneOf ZoneFine
+zone-kind : Kind 2 (λ c. c .zones) zoneOf ZoneFine
 unfolding withRecord layoutOf bodyRow byKind namesOf zoneOf
-zones = record { high = omega arith; empty = refl; grows = λ c k b. refl; counts = λ c. refl; final = λ l m f before z p. p; passes = λ c b e. zone-pass _ (zoneOf b) e }
+zone-kind = record { high = omega arith; empty = refl; grows = λ c k b. refl; counts = λ c. refl; final = λ l m f before z p. p; passes = λ c b e. zone-pass _ (zoneOf b) e }
 
-units : Kind 3 (λ c. c .units) unitOf UnitFine
+unit-kind : Kind 3 (λ c. c .units) unitOf UnitFine
 unfolding withRecord layoutOf bodyRow byKind namesOf unitOf
-units = record { high = omega arith; empty = refl; grows = λ c k b. refl; counts = λ c. refl; final = λ l m f before u p. rw (f 2 (omega arith)) p; passes = λ c b e. unit-pass _ _ (unitOf b) e }
+unit-kind = record { high = omega arith; empty = refl; grows = λ c k b. refl; counts = λ c. refl; final = λ l m f before u p. rw (f 2 (omega arith)) p; passes = λ c b e. unit-pass _ _ (unitOf b) e }
 
-points : Kind 4 (λ c. c .points) pointOf PointFine
+point-kind : Kind 4 (λ c. c .points) pointOf PointFine
 unfolding withRecord layoutOf bodyRow byKind namesOf pointOf
-points = record { high = omega arith; empty = refl; grows = λ c k b. refl; counts = λ c. refl; final = λ l m f before p q. rw (f 2 (omega arith)) q; passes = λ c b e. point-pass _ _ (pointOf b) e }
+point-kind = record { high = omega arith; empty = refl; grows = λ c k b. refl; counts = λ c. refl; final = λ l m f before p q. rw (f 2 (omega arith)) q; passes = λ c b e. point-pass _ _ (pointOf b) e }
 
-pars : Kind 5 (λ c. c .pars) parOf ParFine
+par-kind : Kind 5 (λ c. c .pars) parOf ParFine
 unfolding withRecord layoutOf bodyRow byKind namesOf parOf
-pars = record { high = omega arith; empty = refl; grows = λ c k b. refl; counts = λ c. refl; final = λ l m f before p q. q; passes = λ c b e. par-pass _ (parOf b) e }
+par-kind = record { high = omega arith; empty = refl; grows = λ c k b. refl; counts = λ c. refl; final = λ l m f before p q. q; passes = λ c b e. par-pass _ (parOf b) e }
 
-factors : Kind 6 (λ c. c .factors) factorOf FactorFine
+factor-kind : Kind 6 (λ c. c .factors) factorOf FactorFine
 unfolding withRecord layoutOf bodyRow byKind
-factors = record { high = omega arith; empty = refl; grows = λ c k b. refl; counts = λ c. refl; final = λ l m f before x p. rw (f 2 (omega arith), f 3 (omega arith), f 4 (omega arith), f 5 (omega arith)) p; passes = λ c b e. factor-pass _ _ (factorOf b) e }
+factor-kind = record { high = omega arith; empty = refl; grows = λ c k b. refl; counts = λ c. refl; final = λ l m f before x p. rw (f 2 (omega arith), f 3 (omega arith), f 4 (omega arith), f 5 (omega arith)) p; passes = λ c b e. factor-pass _ _ (factorOf b) e }
+
+module _ {s : List ℕ} {at last : ℕ} {c : Content} (p : Passed s at last c) (i : ℕ) where
+  pub each-head : i < length (c .heads) → HeadFine (layoutOf c) (take i (c .heads)) (getD (c .heads) i noHead)
+  each-head = each 1 (λ c. c .heads) headOf noHead HeadFine head-kind p i
+
+  pub each-zone : i < length (c .zones) → ZoneFine (layoutOf c) (take i (c .zones)) (getD (c .zones) i noZone)
+  each-zone = each 2 (λ c. c .zones) zoneOf noZone ZoneFine zone-kind p i
+
+  pub each-unit : i < length (c .units) → UnitFine (layoutOf c) (take i (c .units)) (getD (c .units) i noUnit)
+  each-unit = each 3 (λ c. c .units) unitOf noUnit UnitFine unit-kind p i
+
+  pub each-point : i < length (c .points) → PointFine (layoutOf c) (take i (c .points)) (getD (c .points) i noPoint)
+  each-point = each 4 (λ c. c .points) pointOf noPoint PointFine point-kind p i
+
+  pub each-par : i < length (c .pars) → ParFine (layoutOf c) (take i (c .pars)) (getD (c .pars) i noPar)
+  each-par = each 5 (λ c. c .pars) parOf noPar ParFine par-kind p i
+
+  pub each-factor : i < length (c .factors) → FactorFine (layoutOf c) (take i (c .factors)) (getD (c .factors) i noFactor)
+  each-factor = each 6 (λ c. c .factors) factorOf noFactor FactorFine factor-kind p i

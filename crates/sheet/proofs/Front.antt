@@ -28,15 +28,15 @@ module _ (l : Layout) (last kind left below : ℕ) where
       let c = row-pass 3 (outOfOrder l last kind) _ (b .1) in
       let d = row-pass 4 (oneTooMany l kind) below (c .1) in
       let k = neither (ltb kind 1) (ltb 6 kind) (a .0) in
-      let o = neither (ltb kind last) (eqb kind 1 && leb 1 (l .heads)) (c .0) in
-      (
+      let o = neither (ltb kind last) (eqb kind 1 && leb 1 (l .heads)) (c .0) in (
         record {
           low = ltb-false _ _ (k .0);
           high = ltb-false _ _ (k .1);
           fits = ltb-false _ _ (b .0);
           order = ltb-false _ _ (o .0);
           head = λ q. leb-false _ _ (rw (eq-eqb kind 1 q) at (o .1));
-          room = d .0 },
+          room = d .0;
+        },
         d .1,
       )
 

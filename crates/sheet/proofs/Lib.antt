@@ -3,3 +3,5 @@ pub mod Walk
 pub mod Reach
 pub mod Told
 pub mod Each
+pub mod Factors
+pub mod Accepted

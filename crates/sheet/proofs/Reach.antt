@@ -89,7 +89,8 @@ module _ (s : List ℕ) where
         zones = cap-next (c .zones) 32 k 2 _ (a .zones) (λ q. leb-false _ _ (rw q at (f .room)));
         units = cap-next (c .units) 256 k 3 _ (a .units) (λ q. leb-false _ _ (rw q at (f .room)));
         points = cap-next (c .points) 32 k 4 _ (a .points) (λ q. leb-false _ _ (rw q at (f .room)));
-        pars = cap-next (c .pars) 8 k 5 _ (a .pars) (λ q. leb-false _ _ (rw q at (f .room))) }
+        pars = cap-next (c .pars) 8 k 5 _ (a .pars) (λ q. leb-false _ _ (rw q at (f .room)));
+      }
 
   -- the loop's state: a layout alone, for the content at its places
   module _ (at last : ℕ) (l : Layout) (p : Passed s at last (contentAt s l)) where

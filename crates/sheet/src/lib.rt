@@ -10,7 +10,6 @@ ghost use Rattle.layout.specs.Layout.{Allowed, contentAt};
 ghost use Rattle.sheet.specs.declared.Outcome.the-variants.{Accepted};
 ghost use Rattle.sheet.specs.Sheet.{oneTooMany, frontRow, bodyRow, recordRow, endRow, readSheet, contentOf};
 ghost use Rattle.sheet.specs.Passed.{Passed};
-
 use layout::Layout;
 use records::bodies;
 use records::rows;
@@ -74,7 +73,12 @@ fn record_row(s: &[u8], l: Layout, last: u8, at: usize) -> u8
         return front;
     }
     let repeated = layout::repeated(s, l, kind, at);
-    body_row(l, kind, repeated, &s[from..from + bodies::body_length(kind)])
+    body_row(
+        l,
+        kind,
+        repeated,
+        &s[from..from + bodies::body_length(kind)],
+    )
 }
 
 // Rows 12 and 13.
@@ -83,7 +87,11 @@ fn end_row(l: Layout) -> u8
     ensures { λ r. ⌜ r ≡ endRow l ⌝ }
 {
     let due = due::due_count(l.zones, l.units, l.points, l.pars);
-    row(12, (l.zones == 0) | (l.units == 0), row(13, l.factors < due, 0))
+    row(
+        12,
+        (l.zones == 0) | (l.units == 0),
+        row(13, l.factors < due, 0),
+    )
 }
 
 pub fn read(s: &[u8]) -> Outcome

@@ -82,8 +82,7 @@ body-row-requires : tie.Need-body-row-requires
 body-row-requires c κs =
     let p = c .before .before .before .before .before .before .before in
     let f = passes (c .before .before .before) in
-    let s = now (p .args .s) in
-    (
+    let s = now (p .args .s) in (
       at-allowed s _ _ _ (p .pre .0),
       f .low,
       f .high,

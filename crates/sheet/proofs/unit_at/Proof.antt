@@ -1,3 +1,7 @@
+use Rattle.sheet.proofs.Accepted.{extent-is, whole, unit-is}
+use Rattle.records.specs.Bodies.{byKind}
+use denote.Ref.{now}
+use native.Mathlib.Omega.{arith}
 use Rattle.sheet.proofs.unit_at.Statement.{statement}
 use Rattle.sheet.proofs.unit_at.Tie as tie
 use Rattle.sheet.proofs.unit_at.Reads as reads
@@ -7,15 +11,23 @@ use Rattle.records.proofs.bodies.unit_of.Reads as unit-of-reads
 
 -- src/lib.rt:143:21
 body-at-requires : tie.Need-body-at-requires
-body-at-requires c κs = ?
+unfolding byKind
+body-at-requires c κs =
+    let p = c .before .pre in
+    (omega (arith, extent-is _ _ (p .0)), omega arith, omega arith, p .1)
 
 -- src/lib.rt:143:5
 unit-of-requires : tie.Need-unit-of-requires
-unit-of-requires c κs = ?
+unfolding byKind
+unit-of-requires c κs =
+    let p = c .before .before in
+    rw (c .body-at .ensures) (omega (arith, whole _ _ (p .pre .0) 3 (p .args .i) (omega arith) (omega arith) (p .pre .1)))
 
 -- src/lib.rt:139:1
 returns : tie.Need-returns
-returns c = ?
+returns c =
+    let p = c .before .before .before in
+    rw (unit-is _ _ (p .pre .0) (p .args .i) (p .pre .1), ← c .before .body-at .ensures) (c .unit-of .ensures)
 
 pub unit-at-spec : {M : Type 1} → statement M
 unit-at-spec = tie.close (tie.spec body-at-requires unit-of-requires returns)

@@ -51,18 +51,18 @@ returns c =
     let b = c .before .before .before .before .before .before .before in
     let p = b .before .before .before .before .before .before .args .t2 in
     let actual =
-        rw (
-          toZ-ofZ {w = w64} {z = b .before .before .before .before .wide32 .result} (record { sfits = b .before .before .before .before .wide32 .ok }),
-          b .before .before .before .before .wide32 .ensures,
-          toZ-ofZ {w = w32} {z = p .actual} (record { sfits = b .before .before .before .before .before .struct-told .given .1 .1 .0 .1 }),
-        ) at (b .before .before .before .beyond .ensures)
+    rw (
+      toZ-ofZ {w = w64} {z = b .before .before .before .before .wide32 .result} (record { sfits = b .before .before .before .before .wide32 .ok }),
+      b .before .before .before .before .wide32 .ensures,
+      toZ-ofZ {w = w32} {z = p .actual} (record { sfits = b .before .before .before .before .before .struct-told .given .1 .1 .0 .1 }),
+    ) at (b .before .before .before .beyond .ensures)
     in
     let target =
-        rw (
-          toZ-ofZ {w = w64} {z = b .before .wide322 .result} (record { sfits = b .before .wide322 .ok }),
-          b .before .wide322 .ensures,
-          toZ-ofZ {w = w32} {z = p .target} (record { sfits = b .before .before .struct-told2 .given .1 .1 .1 .0 .1 }),
-        ) at (b .beyond2 .ensures)
+    rw (
+      toZ-ofZ {w = w64} {z = b .before .wide322 .result} (record { sfits = b .before .wide322 .ok }),
+      b .before .wide322 .ensures,
+      toZ-ofZ {w = w32} {z = p .target} (record { sfits = b .before .before .struct-told2 .given .1 .1 .1 .0 .1 }),
+    ) at (b .beyond2 .ensures)
     in
     cc
 
