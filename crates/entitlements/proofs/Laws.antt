@@ -61,7 +61,7 @@ pub record Passes (es : List Entry) (k : ℕ) (r : List ℕ) : Type 0 where
   pub new : repeated es (entryOf r .name) ≡ false
   pub room : length es < mostRecords
 
-or-none : (a b : Bool) → (a || b) ≡ false → (a ≡ false) × (b ≡ false)
+pub or-none : (a b : Bool) → (a || b) ≡ false → (a ≡ false) × (b ≡ false)
 or-none true b e = absurd (let z : _≡_ {A = ℕ} 0 1 = cc in omega arith)
 or-none false b e = (refl, e)
 
