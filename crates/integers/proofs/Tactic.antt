@@ -5,9 +5,10 @@ use Prim.Native.Nat.{ℕ, _+_, _*_, _<_, _≤_}
 use native.Mathlib.Omega.{arith}
 use lib.IntN.{ℤ, pos, negsuc, negℤ, natAbs, _+ℤ_, _-ℤ_, _*ℤ_}
 use lib.Signed.{_≤ℤ_, _<ℤ_}
-use Rattle.integers.specs.Lin.{zin, zout, zarith}
-use Rattle.integers.specs.Ord.{abs-le, le-mul}
-use Rattle.integers.specs.Fit.{Within, within-le, within-of, within, abs-within}
+use Rattle.integers.proofs.Linear.{zin, zout, zarith}
+use Rattle.integers.proofs.Order.{abs-le, le-mul}
+use Rattle.integers.specs.Within.{Within}
+use Rattle.integers.proofs.Absolute.{within-le, within-of, within, abs-within}
 
 pub within-iff : (x : ℤ) (k : ℕ) → Within x k ↔ ((negℤ (pos k) ≤ℤ x) × (x ≤ℤ pos k))
 within-iff x k = (within-le, (λ h. within-of (h .0) (h .1)))

@@ -7,8 +7,8 @@ use native.Mathlib.Decide.{decLe}
 use native.Mathlib.Omega.{arith}
 use lib.IntN.{ℤ, pos, negsuc, negℤ, natAbs, _+ℤ_, _-ℤ_, _*ℤ_}
 use lib.Signed.{_≤ℤ_, _<ℤ_}
-use Rattle.integers.specs.Z.{up, dn, up-mul, dn-mul, up-neg, dn-neg, le-of, le-to, lt-of, lt-to, eq-of, eq-to}
-use Rattle.integers.specs.Lin.{zin, zout, zarith}
+use Rattle.integers.proofs.Parts.{up, dn, up-mul, dn-mul, up-neg, dn-neg, le-of, le-to, lt-of, lt-to, eq-of, eq-to}
+use Rattle.integers.proofs.Linear.{zin, zout, zarith}
 
 pub ≤-trans : {x y z : ℤ} → x ≤ℤ y → y ≤ℤ z → x ≤ℤ z
 ≤-trans {x} {y} {z} h k = le-of x z (omega zarith)

@@ -7,8 +7,8 @@ use lib.IntN.{ℤ, pos, negsuc, negℤ, negℤ-negℤ, negℤ-+ℤ, _+ℤ_, _-�
 use mir.Syntax.{w64}
 use mir.Val.{SFits}
 use lib.Signed.{_≤ℤ_, _<ℤ_, leZ, ltZ}
-use Rattle.integers.specs.Z.{up, dn, up-pos, dn-pos, up-negsuc, dn-negsuc, up-neg, dn-neg, up-mul, dn-mul, add-law, eq-of, eq-to, le-of, le-to, lt-of, lt-to}
-use Rattle.integers.specs.Ring.{*-assoc, *-distl, *-distr, neg-mull, neg-mulr, *-left-comm}
+use Rattle.integers.proofs.Parts.{up, dn, up-pos, dn-pos, up-negsuc, dn-negsuc, up-neg, dn-neg, up-mul, dn-mul, add-law, eq-of, eq-to, le-of, le-to, lt-of, lt-to}
+use Rattle.integers.proofs.Ring.{*-assoc, *-distl, *-distr, neg-mull, neg-mulr, *-left-comm}
 
 -- a + z ≤ b + w
 pub record Le (a : ℕ) (z : ℤ) (b : ℕ) (w : ℤ) : Type 0 where

@@ -1,0 +1,9 @@
+pub mod Parts
+pub mod Ring
+pub mod Linear
+pub mod Order
+pub mod Absolute
+pub mod Tactic
+pub mod Division
+pub mod Machine
+pub mod Sums
