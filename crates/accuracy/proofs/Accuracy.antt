@@ -4,7 +4,8 @@ use native.Mathlib.Omega.{arith}
 use mathlib.Core.Path.{_≡_, refl, ap}
 use mathlib.Core.Bool.{Bool, true, false, cond}
 use mathlib.Core.Logic.{_↔_}
-use lib.Dec.{eqb, T, eqb→eq}
+use borrow.Author.Tests.{eqb-true}
+use lib.Dec.{eqb}
 use lib.IntN.{ℤ, pos, natAbs, _+ℤ_, _-ℤ_, _*ℤ_, *ℤ-comm}
 use lib.ListN.{length}
 use lib.Signed.{_≤ℤ_, _<ℤ_, ≤ℤ-refl}
@@ -96,12 +97,8 @@ weight-both : (c : Content) (i : ℕ) → (weight c common i +ℤ weight c nonco
 unfolding weight
 weight-both c i = by (par c i .class) (eqb (par c i .class) common) refl (eqb (par c i .class) noncommon) refl
   where
-    is-true : (b : Bool) → b ≡ true → T b
-    is-true true e = tt
-    is-true false e = absurd (let z : _≡_ {A = ℕ} 0 1 = cc in omega arith)
-
     by : (k : ℕ) (a : Bool) → eqb k common ≡ a → (b : Bool) → eqb k noncommon ≡ b → (cond a (pos 10000) (pos 0) +ℤ cond b (pos 10000) (pos 0)) ≤ℤ pos 10000
-    by k true d true e = absurd (let z : ⊥ = omega (arith, eqb→eq k common (is-true _ d), eqb→eq k noncommon (is-true _ e)) in z)
+    by k true d true e = absurd (omega (arith, eqb-true k common d, eqb-true k noncommon e))
     by k true d false e = record { le = tt }
     by k false d true e = record { le = tt }
     by k false d false e = record { le = tt }

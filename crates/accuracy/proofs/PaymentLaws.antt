@@ -13,7 +13,7 @@ use Rattle.integers.proofs.Tactic.{zi, zo}
 use Rattle.records.specs.declared.Head.{Head}
 use Rattle.figures.specs.Payment.{price}
 use Rattle.figures.proofs.Balanced.{natural-least, above-suc}
-use Rattle.figures.proofs.Price.{price-above, price-below, price-zero}
+use Rattle.figures.proofs.Payments.{price-above, price-below, price-zero}
 use Rattle.accuracy.specs.Fraction.{Fraction, _⊗_, Near}
 use Rattle.accuracy.specs.Exact.{exactPrice}
 use Rattle.accuracy.specs.Accurate.{dearerPrice}

@@ -3,6 +3,7 @@ use Prim.Native.Nat.{ℕ, zero, suc, _+_, _<_}
 use native.Mathlib.Omega.{arith}
 use mathlib.Core.Path.{_≡_, refl, sym}
 use mathlib.Core.Bool.{Bool, true, false, not, cond, _||_}
+use borrow.Author.Tests.{not-false}
 use lib.Dec.{eqb, lit<, leb·suc-zero}
 use lib.IntN.{ℤ, pos, negsuc, _+ℤ_, _-ℤ_}
 use lib.ListN.{length}
@@ -26,7 +27,7 @@ pub record NoneMet (c : Content) : Type 0 where
   pub row-20 : netGenerationZero c ≡ false
   pub row-21 : finalGenerationBelowZero c ≡ false
 
-not-met : (t : Bool) (n m : ℕ) → 0 < n → cond t n m ≡ 0 → (t ≡ false) × (m ≡ 0)
+pub not-met : (t : Bool) (n m : ℕ) → 0 < n → cond t n m ≡ 0 → (t ≡ false) × (m ≡ 0)
 not-met true n m h e = let z : ⊥ = omega arith in absurd z
 not-met false n m h e = (refl, e)
 
@@ -41,13 +42,9 @@ none-met c e =
     let h = not-met (finalGenerationBelowZero c) 21 _ (lit< tt) (g .1) in
     record { row-16 = a .0; row-17 = b .0; row-18 = d .0; row-19 = f .0; row-20 = g .0; row-21 = h .0 }
 
-neither : (a b : Bool) → a || b ≡ false → (a ≡ false) × (b ≡ false)
+pub neither : (a b : Bool) → a || b ≡ false → (a ≡ false) × (b ≡ false)
 neither true b e = (e, (cc))
 neither false b e = (refl, e)
-
-all-true : (b : Bool) → not b ≡ false → b ≡ true
-all-true true e = refl
-all-true false e = cc
 
 -- a net figure and what is taken off it at the proxies
 more-left : (n x : ℤ) → pos 0 ≤ℤ x → pos 0 <ℤ (n -ℤ x) → pos 0 <ℤ n
@@ -108,7 +105,7 @@ module _ (c : Content) (e : balanceRow c ≡ 0) where
 
   pub zone-load-least : (z : ℕ) → z < length (c .zones) → pos 0 ≤ℤ zoneLoad c z
   unfolding zoneLoadBelowZero
-  zone-load-least z l = le-true _ _ (all-at (atLeastZero (zoneLoad c)) (length (c .zones)) z (all-true _ (none-met c e .row-17)) l)
+  zone-load-least z l = le-true _ _ (all-at (atLeastZero (zoneLoad c)) (length (c .zones)) z (not-false _ (none-met c e .row-17)) l)
 
   pub final-load-above : pos 0 <ℤ finalLoad c
   unfolding finalLoadNotAboveZero
@@ -120,7 +117,7 @@ module _ (c : Content) (e : balanceRow c ≡ 0) where
 
   pub zone-generation-least : (z : ℕ) → z < length (c .zones) → pos 0 ≤ℤ zoneGeneration c z
   unfolding zoneGenerationBelowZero
-  zone-generation-least z l = le-true _ _ (all-at (atLeastZero (zoneGeneration c)) (length (c .zones)) z (all-true _ (none-met c e .row-19)) l)
+  zone-generation-least z l = le-true _ _ (all-at (atLeastZero (zoneGeneration c)) (length (c .zones)) z (not-false _ (none-met c e .row-19)) l)
 
   pub net-generation-above : pos 0 <ℤ netGeneration c
   unfolding netGenerationZero netGeneration

@@ -1,3 +1,6 @@
 pub mod Balanced
-pub mod Price
 pub mod Factors
+pub mod Sums
+pub mod Ranges
+pub mod Bounds
+pub mod Payments

@@ -1,0 +1,129 @@
+-- Laws of sums over indices that the figures' bounds rest on, and a sharp bound on a rounded quotient. Assumes nothing.
+use Prim.Native.Nat.{ℕ, zero, suc, _+_, _*_, _≤_, _<_}
+use native.Mathlib.Nat.{mul-le-mul-right, le-trans}
+use native.Mathlib.Decide.{decLe, ℕ-discrete}
+use native.Mathlib.Omega.{arith}
+use mathlib.Core.Path.{_≡_, refl, sym, ap, _∙_}
+use mathlib.Core.Bool.{Bool, true, false, cond}
+use borrow.Author.Tests.{eqb-true}
+use lib.Dec.{eqb}
+use lib.IntN.{ℤ, pos, negsuc, natAbs, _+ℤ_, _-ℤ_, _*ℤ_}
+use lib.Signed.{_≤ℤ_, _<ℤ_, ≤ℤ-refl}
+use Rattle.integers.specs.Sum.{sumTo}
+use Rattle.integers.proofs.Parts.{le-to}
+use Rattle.integers.proofs.Linear.{zarith}
+use Rattle.integers.proofs.Order.{≤-trans}
+use Rattle.integers.proofs.Absolute.{abs-add, abs-sub, abs-mul}
+use Rattle.integers.proofs.Sums.{sum-abs, sum-least}
+use Rattle.integers.proofs.Tactic.{zi, zo}
+use Rattle.quotient.specs.Rounded.{quotient, remainder}
+use Rattle.quotient.proofs.Laws.{whole, near}
+
+-- the sum so far, of n terms within B each
+pub partial-within : (f : ℕ → ℤ) (B n m : ℕ) → ((i : ℕ) → i < n → natAbs (f i) ≤ B) → m ≤ n → natAbs (sumTo f m) ≤ n * B
+partial-within f B n m h l = le-trans (sum-abs f B m (λ i k. h i (omega arith))) (mul-le-mul-right B l)
+
+-- terms that are no larger
+plus-rise : (x y a b : ℤ) → x ≤ℤ y → a ≤ℤ b → (x +ℤ a) ≤ℤ (y +ℤ b)
+plus-rise x y a b = simp zi (simp zo (omega zarith))
+
+pub sum-rise : (f g : ℕ → ℤ) (n : ℕ) → ((i : ℕ) → i < n → f i ≤ℤ g i) → sumTo f n ≤ℤ sumTo g n
+unfolding sumTo
+sum-rise f g zero h = ≤ℤ-refl (pos 0)
+sum-rise f g (suc n) h = plus-rise (sumTo f n) (sumTo g n) (f n) (g n) (sum-rise f g n (λ i l. h i (omega arith))) (h n (omega arith))
+
+-- one of several terms that are not negative
+plus-right : (x y : ℤ) → pos 0 ≤ℤ x → y ≤ℤ (x +ℤ y)
+plus-right x y = simp zi (simp zo (omega zarith))
+
+plus-left : (x y z : ℤ) → pos 0 ≤ℤ y → z ≤ℤ x → z ≤ℤ (x +ℤ y)
+plus-left x y z = simp zi (simp zo (omega zarith))
+
+pub sum-term : (f : ℕ → ℤ) (n i : ℕ) → ((k : ℕ) → k < n → pos 0 ≤ℤ f k) → i < n → f i ≤ℤ sumTo f n
+unfolding sumTo
+sum-term f zero i h l = absurd (omega arith)
+sum-term f (suc n) i h l = by (ℕ-discrete i n) (λ k. sum-term f n i (λ j m. h j (omega arith)) k)
+  where
+    by : Dec (i ≡ n) → (i < n → f i ≤ℤ sumTo f n) → f i ≤ℤ (sumTo f n +ℤ f n)
+    by (yes e) r = rw e (plus-right (sumTo f n) (f n) (sum-least f n (λ j m. h j (omega arith))))
+    by (no e) r = plus-left (sumTo f n) (f n) (f i) (h n (omega arith)) (r (omega (arith, e)))
+
+-- terms that are at most k times others that are not negative
+abs-both : (x y : ℤ) → pos 0 ≤ℤ x → pos 0 ≤ℤ y → natAbs (x +ℤ y) ≡ natAbs x + natAbs y
+abs-both (pos a) (pos b) h l = refl
+abs-both (pos a) (negsuc b) h l = absurd (l .le)
+abs-both (negsuc a) y h l = absurd (h .le)
+
+pub sum-weighted : (f g : ℕ → ℤ) (k n : ℕ) → ((i : ℕ) → i < n → natAbs (f i) ≤ k * natAbs (g i)) → ((i : ℕ) → i < n → pos 0 ≤ℤ g i) → natAbs (sumTo f n) ≤ k * natAbs (sumTo g n)
+unfolding sumTo
+sum-weighted f g k zero h l = omega arith
+sum-weighted f g k (suc n) h l =
+    omega (
+      arith,
+      abs-add (sumTo f n) (f n),
+      h n (omega arith),
+      sum-weighted f g k n (λ i m. h i (omega arith)) (λ i m. l i (omega arith)),
+      ap (λ m. k * m) (abs-both (sumTo g n) (g n) (sum-least g n (λ i m. l i (omega arith))) (l n (omega arith))),
+    )
+
+-- a table's cells, added by columns z and within them by lines i, where no line adds up to more than g i
+plus-swap : (x y a b : ℤ) → (x +ℤ y) +ℤ (a +ℤ b) ≡ (x +ℤ a) +ℤ (y +ℤ b)
+plus-swap x y a b = simp zi (simp zo (omega zarith))
+
+sum-plus : (f g : ℕ → ℤ) (n : ℕ) → sumTo (λ i. f i +ℤ g i) n ≡ sumTo f n +ℤ sumTo g n
+unfolding sumTo
+sum-plus f g zero = refl
+sum-plus f g (suc n) = ap (λ x. x +ℤ (f n +ℤ g n)) (sum-plus f g n) ∙ plus-swap (sumTo f n) (sumTo g n) (f n) (g n)
+
+sum-none : (n : ℕ) → sumTo (λ z. pos 0) n ≡ pos 0
+unfolding sumTo
+sum-none zero = refl
+sum-none (suc n) = ap (λ x. x +ℤ pos 0) (sum-none n)
+
+pub sum-table : (cell : ℕ → ℕ → ℤ) (g : ℕ → ℤ) (n m : ℕ) → ((i : ℕ) → i < m → sumTo (λ z. cell z i) n ≤ℤ g i) → sumTo (λ z. sumTo (cell z) m) n ≤ℤ sumTo g m
+unfolding sumTo
+sum-table cell g n zero h = rw (sum-none n) (≤ℤ-refl (pos 0))
+sum-table cell g n (suc m) h = rw (sum-plus (λ z. sumTo (cell z) m) (λ z. cell z m) n)
+    (plus-rise _ _ _ _ (sum-table cell g n m (λ i l. h i (omega arith))) (h m (omega arith)))
+
+-- a number that stands at no more than one index, the one before k
+sum-before : (k : ℕ) (x : ℤ) (n : ℕ) → n < k → sumTo (λ z. cond (eqb k (z + 1)) x (pos 0)) n ≡ pos 0
+unfolding sumTo
+sum-before k x zero l = refl
+sum-before k x (suc n) l = rw (sum-before k x n (omega arith)) (by (eqb k (n + 1)) refl)
+  where
+    by : (b : Bool) → eqb k (n + 1) ≡ b → pos 0 +ℤ cond b x (pos 0) ≡ pos 0
+    by true e = absurd (omega (arith, eqb-true k (n + 1) e))
+    by false e = refl
+
+pub sum-once : (k : ℕ) (x : ℤ) (n : ℕ) → pos 0 ≤ℤ x → sumTo (λ z. cond (eqb k (z + 1)) x (pos 0)) n ≤ℤ x
+unfolding sumTo
+sum-once k x zero h = h
+sum-once k x (suc n) h = by (eqb k (n + 1)) refl (sum-once k x n h)
+  where
+    none : (x y : ℤ) → x ≡ pos 0 → (x +ℤ y) ≤ℤ y
+    none x y = simp zi (simp zo (omega zarith))
+
+    same : (x y : ℤ) → x ≤ℤ y → (x +ℤ pos 0) ≤ℤ y
+    same x y = simp zi (simp zo (omega zarith))
+
+    by : (b : Bool) → eqb k (n + 1) ≡ b → sumTo (λ z. cond (eqb k (z + 1)) x (pos 0)) n ≤ℤ x → (sumTo (λ z. cond (eqb k (z + 1)) x (pos 0)) n +ℤ cond b x (pos 0)) ≤ℤ x
+    by true e r = none _ x (sum-before k x n (omega (arith, eqb-true k (n + 1) e)))
+    by false e r = same _ x r
+
+-- a rounded quotient is at most k where the dividend is at most k divisors
+less-is : (n q r d : ℤ) → n ≡ q *ℤ d +ℤ r → q *ℤ d ≡ n -ℤ r
+less-is n q r d = simp zi (simp zo (omega zarith))
+
+pub quotient-share : (n d : ℤ) (k : ℕ) → pos 0 <ℤ d → natAbs n ≤ k * natAbs d → natAbs (quotient n d) ≤ k
+quotient-share n (negsuc b) k h l = absurd (h .lt)
+quotient-share n (pos b) k h l = by (decLe (natAbs (quotient n (pos b))) k)
+  where
+    product : natAbs (quotient n (pos b)) * b ≤ natAbs n + natAbs (remainder n (pos b))
+    product = rw (sym (abs-mul (quotient n (pos b)) (pos b)) ∙ ap natAbs (less-is n (quotient n (pos b)) (remainder n (pos b)) (pos b) (whole n (pos b)))) (abs-sub n (remainder n (pos b)))
+
+    by : Dec (natAbs (quotient n (pos b)) ≤ k) → natAbs (quotient n (pos b)) ≤ k
+    by (yes g) = g
+    by (no g) =
+        let more : (k + 1) * b ≤ natAbs (quotient n (pos b)) * b = mul-le-mul-right b (omega (arith, g)) in
+        absurd (omega (zarith, product, more, near n (pos b) h))
