@@ -4,3 +4,5 @@ pub mod Sums
 pub mod Ranges
 pub mod Bounds
 pub mod Payments
+pub mod Examples
+pub mod Accepted

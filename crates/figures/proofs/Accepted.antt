@@ -1,0 +1,77 @@
+-- Sheet S passes rows 1 to 13 and 16 to 22: what is proved of accepted sheets speaks of something. Assumes nothing.
+use Prim.Native.Nat.{ℕ, zero, suc, _≤_, _<_}
+use native.Mathlib.Omega.{arith}
+use mathlib.Core.Path.{_≡_, refl}
+use mathlib.Core.Bool.{Bool, true, false, cond}
+use mathlib.Core.List.{List, [], _∷_}
+use lib.Dec.{lit≤}
+use lib.IntN.{ℤ, pos, natAbs}
+use lib.ListN.{length, getD}
+use Rattle.due.specs.Due.{tab, each, flowgate, perPar, dueList}
+use Rattle.records.specs.declared.Place.the-variants.{Proxy, Line}
+use Rattle.records.specs.declared.Factor.{Factor}
+use Rattle.records.specs.Content.{Content, noZone, noUnit, noPoint, noPar, bears, factorFor}
+use Rattle.records.specs.Valid.{HeadFits, ZoneFits, UnitFits, LineFits, PointFits, ParFits, Valid}
+use Rattle.figures.specs.Balance.{grossLoad, grossAboveLimit, zoneLoadBelowZero, finalLoadNotAboveZero, zoneGenerationBelowZero, isZero, netGenerationZero, finalGenerationBelowZero, balanceRow}
+use Rattle.figures.specs.Flow.{flowOutside, flowRow}
+use Rattle.figures.proofs.Examples.{printed, sheetS}
+
+-- what holds of every element holds at every index
+abbrev pub All : {A : Type 0} → (A → Type 0) → List A → Type 0
+All P [] = Unit {0}
+All P (x ∷ xs) = P x × All P xs
+
+pub at-each : {A : Type 0} (P : A → Type 0) (d : A) (xs : List A) → All P xs → (i : ℕ) → i < length xs → P (getD xs i d)
+at-each P d [] h i l = absurd (omega arith)
+at-each P d (x ∷ xs) h zero l = h .0
+at-each P d (x ∷ xs) h (suc i) l = at-each P d xs (h .1) i (omega arith)
+
+-- factors that are looked up are in the list, or 0
+pub record FactorFits (f : Factor) : Type 0 where
+  pub factor : natAbs (f .factor) ≤ 10000
+
+pub looked-up : (fs : List Factor) → All FactorFits fs → (target subject index : ℕ) → natAbs (factorFor fs target subject index) ≤ 10000
+unfolding factorFor
+looked-up [] h target subject index = omega arith
+looked-up (f ∷ fs) h target subject index = by (bears f target subject index) (looked-up fs (h .1) target subject index)
+  where
+    by : (b : Bool) → natAbs (factorFor fs target subject index) ≤ 10000 → natAbs (cond b (f .factor) (factorFor fs target subject index)) ≤ 10000
+    by true r = h .0 .factor
+    by false r = r
+
+-- a point's place
+pub line-fits : (zones k : ℕ) → 1 ≤ k → k ≤ zones → (n : ℕ) → Line k ≡ Line n → LineFits zones n
+line-fits zones k a b n e = let q : k ≡ n = cc in omega arith
+
+pub proxy-fits : (zones n : ℕ) → Proxy ≡ Line n → LineFits zones n
+proxy-fits zones n e = let q : _≡_ {A = ℕ} 0 1 = cc in omega arith
+
+pub s-valid : Valid sheetS
+unfolding tab each flowgate perPar dueList
+s-valid = record {
+  heads = refl;
+  zones-least = lit≤ tt;
+  zones-most = lit≤ tt;
+  units-least = lit≤ tt;
+  units-most = lit≤ tt;
+  points-most = lit≤ tt;
+  pars-most = lit≤ tt;
+  factors = refl;
+  head-fits = omega arith;
+  zone-fits = at-each ZoneFits noZone (sheetS .zones) (omega arith);
+  unit-fits = at-each (UnitFits 2) noUnit (sheetS .units) (omega arith);
+  point-fits = at-each (PointFits 2) noPoint (sheetS .points) (
+    record { sort-least = lit≤ tt; sort-most = lit≤ tt; place = line-fits 2 2 (lit≤ tt) (lit≤ tt); import = lit≤ tt; export = lit≤ tt },
+    (record { sort-least = lit≤ tt; sort-most = lit≤ tt; place = proxy-fits 2; import = lit≤ tt; export = lit≤ tt }, tt),
+  );
+  par-fits = at-each ParFits noPar (sheetS .pars) (omega arith);
+  factor-fits = λ target subject i a. looked-up (sheetS .factors) (omega arith) target subject _;
+}
+
+pub s-balanced : balanceRow sheetS ≡ 0
+unfolding printed grossLoad grossAboveLimit zoneLoadBelowZero finalLoadNotAboveZero zoneGenerationBelowZero isZero netGenerationZero finalGenerationBelowZero balanceRow
+s-balanced = refl
+
+pub s-inside : flowRow sheetS (pos 100) ≡ 0
+unfolding printed flowOutside flowRow
+s-inside = refl
