@@ -1,5 +1,5 @@
 -- The accuracy rule, proved: every content that passes rows 1 to 13 and 16 to 21 is accurate. Assumes nothing.
-use Prim.Native.Nat.{ℕ, zero, suc, _+_, _*_, _≤_, _<_}
+use Prim.Native.Nat.{ℕ, zero, suc, _+_, _<_}
 use native.Mathlib.Omega.{arith}
 use mathlib.Core.Path.{_≡_, refl, ap}
 use mathlib.Core.Bool.{Bool, true, false, cond}
@@ -16,7 +16,6 @@ use Rattle.integers.proofs.Order.{lt-le, le-mul}
 use Rattle.integers.proofs.Absolute.{abs-pos}
 use Rattle.integers.proofs.Sums.{sum-least}
 use Rattle.integers.proofs.Tactic.{zi, zo}
-use Rattle.quotient.specs.Rounded.{quotient, remainder}
 use Rattle.quotient.proofs.Laws.{whole}
 use Rattle.records.specs.declared.Head.{Head}
 use Rattle.records.specs.Content.{Content, head, par}
@@ -29,7 +28,7 @@ use Rattle.figures.proofs.Factors.{par-factor-within}
 use Rattle.accuracy.specs.Fraction.{Fraction, entire, _⊕_, _⊖_, _⊗_, _⊘_, half, _≼_, Equals, Near}
 use Rattle.accuracy.specs.Exact.{exactGenerationToLoad, exactCarriedTerm, exactRedirect, exactNonCommonRedirect, exactMarketFlow, exactSettlementFlow, exactDifference, exactAmountOf, exactAmount}
 use Rattle.accuracy.specs.Accurate.{flowBound, marketBound, amountBound, Accurate}
-use Rattle.accuracy.proofs.FractionLaws.{near-self, near-plus, near-minus, near-wide, near-times, near-rounded, near-more, near-less, near-sum, entire-above}
+use Rattle.accuracy.proofs.FractionLaws.{near-self, near-minus, near-wide, near-times, near-rounded, near-more, near-less, near-sum, entire-above}
 use Rattle.accuracy.proofs.PaymentLaws.{near-pay}
 
 -- a number that is not negative is its own size

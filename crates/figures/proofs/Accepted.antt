@@ -5,16 +5,16 @@ use mathlib.Core.Path.{_≡_, refl}
 use mathlib.Core.Bool.{Bool, true, false, cond}
 use mathlib.Core.List.{List, [], _∷_}
 use lib.Dec.{lit≤}
-use lib.IntN.{ℤ, pos, natAbs}
+use lib.IntN.{pos, natAbs}
 use lib.ListN.{length, getD}
 use Rattle.due.specs.Due.{tab, each, flowgate, perPar, dueList}
 use Rattle.records.specs.declared.Place.the-variants.{Proxy, Line}
 use Rattle.records.specs.declared.Factor.{Factor}
-use Rattle.records.specs.Content.{Content, noZone, noUnit, noPoint, noPar, bears, factorFor}
+use Rattle.records.specs.Content.{Content, head, noZone, noUnit, noPoint, noPar, bears, factorFor}
 use Rattle.records.specs.Valid.{HeadFits, ZoneFits, UnitFits, LineFits, PointFits, ParFits, Valid}
-use Rattle.figures.specs.Balance.{grossLoad, grossAboveLimit, zoneLoadBelowZero, finalLoadNotAboveZero, zoneGenerationBelowZero, isZero, netGenerationZero, finalGenerationBelowZero, balanceRow}
+use Rattle.figures.specs.Balance.{balanceRow}
 use Rattle.figures.specs.Flow.{flowOutside, flowRow}
-use Rattle.figures.proofs.Examples.{printed, sheetS}
+use Rattle.figures.proofs.Examples.{printed, refused, sheetS}
 
 -- what holds of every element holds at every index
 abbrev pub All : {A : Type 0} → (A → Type 0) → List A → Type 0
@@ -46,30 +46,49 @@ line-fits zones k a b n e = let q : k ≡ n = cc in omega arith
 pub proxy-fits : (zones n : ℕ) → Proxy ≡ Line n → LineFits zones n
 proxy-fits zones n e = let q : _≡_ {A = ℕ} 0 1 = cc in omega arith
 
-pub s-valid : Valid sheetS
-unfolding tab each flowgate perPar dueList
-s-valid = record {
-  heads = refl;
-  zones-least = lit≤ tt;
-  zones-most = lit≤ tt;
-  units-least = lit≤ tt;
-  units-most = lit≤ tt;
-  points-most = lit≤ tt;
-  pars-most = lit≤ tt;
-  factors = refl;
-  head-fits = omega arith;
-  zone-fits = at-each ZoneFits noZone (sheetS .zones) (omega arith);
-  unit-fits = at-each (UnitFits 2) noUnit (sheetS .units) (omega arith);
-  point-fits = at-each (PointFits 2) noPoint (sheetS .points) (
-    record { sort-least = lit≤ tt; sort-most = lit≤ tt; place = line-fits 2 2 (lit≤ tt) (lit≤ tt); import = lit≤ tt; export = lit≤ tt },
-    (record { sort-least = lit≤ tt; sort-most = lit≤ tt; place = proxy-fits 2; import = lit≤ tt; export = lit≤ tt }, tt),
-  );
-  par-fits = at-each ParFits noPar (sheetS .pars) (omega arith);
-  factor-fits = λ target subject i a. looked-up (sheetS .factors) (omega arith) target subject _;
+-- what passes rows 1 to 13, from a test of each record
+pub record Tested (c : Content) : Type 0 where
+  pub heads : length (c .heads) ≡ 1
+  pub zones-least : 1 ≤ length (c .zones)
+  pub zones-most : length (c .zones) ≤ 32
+  pub units-least : 1 ≤ length (c .units)
+  pub units-most : length (c .units) ≤ 256
+  pub points-most : length (c .points) ≤ 32
+  pub pars-most : length (c .pars) ≤ 8
+  pub due : length (c .factors) ≡ length (dueList (length (c .zones)) (length (c .units)) (length (c .points)) (length (c .pars)))
+  pub head : HeadFits (head c)
+  pub zones : All ZoneFits (c .zones)
+  pub units : All (UnitFits (length (c .zones))) (c .units)
+  pub pars : All ParFits (c .pars)
+
+pub valid-of : (c : Content) → Tested c → All FactorFits (c .factors) → All (PointFits (length (c .zones))) (c .points) → Valid c
+valid-of c t f p = record {
+  heads = t .heads;
+  zones-least = t .zones-least;
+  zones-most = t .zones-most;
+  units-least = t .units-least;
+  units-most = t .units-most;
+  points-most = t .points-most;
+  pars-most = t .pars-most;
+  factors = t .due;
+  head-fits = t .head;
+  zone-fits = at-each ZoneFits noZone (c .zones) (t .zones);
+  unit-fits = at-each (UnitFits (length (c .zones))) noUnit (c .units) (t .units);
+  point-fits = at-each (PointFits (length (c .zones))) noPoint (c .points) p;
+  par-fits = at-each ParFits noPar (c .pars) (t .pars);
+  factor-fits = λ target subject i a. looked-up (c .factors) f target subject _;
 }
 
+pub s-valid : Valid sheetS
+unfolding tab each flowgate perPar dueList
+s-valid =
+    valid-of sheetS (omega arith) (omega arith) (
+      record { sort-least = lit≤ tt; sort-most = lit≤ tt; place = line-fits 2 2 (lit≤ tt) (lit≤ tt); import = lit≤ tt; export = lit≤ tt },
+      (record { sort-least = lit≤ tt; sort-most = lit≤ tt; place = proxy-fits 2; import = lit≤ tt; export = lit≤ tt }, tt),
+    )
+
 pub s-balanced : balanceRow sheetS ≡ 0
-unfolding printed grossLoad grossAboveLimit zoneLoadBelowZero finalLoadNotAboveZero zoneGenerationBelowZero isZero netGenerationZero finalGenerationBelowZero balanceRow
+unfolding refused
 s-balanced = refl
 
 pub s-inside : flowRow sheetS (pos 100) ≡ 0

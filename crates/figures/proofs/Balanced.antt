@@ -1,22 +1,21 @@
 -- What is known of loads and generation where none of refusals 16 to 21 is met. Assumes nothing.
-use Prim.Native.Nat.{ℕ, zero, suc, _+_, _<_}
+use Prim.Native.Nat.{ℕ, zero, suc, _<_}
 use native.Mathlib.Omega.{arith}
 use mathlib.Core.Path.{_≡_, refl, sym}
-use mathlib.Core.Bool.{Bool, true, false, not, cond, _||_}
+use mathlib.Core.Bool.{Bool, true, false, cond, _||_}
 use borrow.Author.Tests.{not-false}
 use lib.Dec.{eqb, lit<, leb·suc-zero}
-use lib.IntN.{ℤ, pos, negsuc, _+ℤ_, _-ℤ_}
+use lib.IntN.{ℤ, pos, negsuc, _-ℤ_}
 use lib.ListN.{length}
 use lib.Signed.{_≤ℤ_, _<ℤ_, leZ, ltZ}
-use Rattle.integers.specs.Sum.{sumTo, allTo}
 use Rattle.integers.proofs.Linear.{zarith}
 use Rattle.integers.proofs.Tactic.{zi, zo}
 use Rattle.integers.proofs.Machine.{lt-false, le-true, le-false}
 use Rattle.integers.proofs.Sums.{sum-least, all-at}
 use Rattle.records.specs.declared.Place.{Place}
 use Rattle.records.specs.declared.Place.the-variants.{Proxy, Line}
-use Rattle.records.specs.Content.{Content, unit, point}
-use Rattle.figures.specs.Balance.{onLine, atProxy, zoneLoad, netLoad, proxyImport, proxyImports, finalLoad, output, zoneGeneration, netGeneration, proxyExport, proxyExports, finalGeneration, grossLoad, grossOutput, grossAboveLimit, atLeastZero, zoneLoadBelowZero, finalLoadNotAboveZero, zoneGenerationBelowZero, isZero, netGenerationZero, finalGenerationBelowZero, balanceRow}
+use Rattle.records.specs.Content.{Content, point}
+use Rattle.figures.specs.Balance.{onLine, atProxy, zoneLoad, netLoad, proxyImport, proxyImports, finalLoad, zoneGeneration, netGeneration, proxyExport, proxyExports, finalGeneration, grossLoad, grossOutput, grossAboveLimit, atLeastZero, zoneLoadBelowZero, finalLoadNotAboveZero, zoneGenerationBelowZero, isZero, netGenerationZero, finalGenerationBelowZero, balanceRow}
 
 -- the rows one by one
 pub record NoneMet (c : Content) : Type 0 where

@@ -1,20 +1,20 @@
 -- How large each figure can be where none of refusals 16 to 21, and at the end 22, is met: every one fits an i64. Assumes nothing.
-use Prim.Native.Nat.{ℕ, _+_, _*_, _≤_, _<_}
-use native.Mathlib.Nat.{le-refl, le-trans, mul-le-mul, mul-le-mul-left}
+use Prim.Native.Nat.{ℕ, _+_, _-_, _*_, _≤_, _<_}
+use native.Mathlib.Nat.{le-refl, le-trans, mul-le-mul-left}
 use native.Mathlib.Omega.{arith}
-use mathlib.Core.Path.{_≡_, refl, sym, ap}
+use mathlib.Core.Path.{_≡_, _∙_}
 use mathlib.Core.Bool.{Bool, true, false, cond}
+use borrow.Author.Tests.{eq-eqb, ne-eqb}
 use lib.Dec.{eqb}
-use lib.IntN.{ℤ, pos, negsuc, negℤ, natAbs, _+ℤ_, _-ℤ_, _*ℤ_}
+use lib.IntN.{ℤ, pos, negsuc, natAbs, _+ℤ_, _-ℤ_, _*ℤ_}
 use lib.ListN.{length}
-use lib.Signed.{_≤ℤ_, _<ℤ_, ltZ}
+use lib.Signed.{_≤ℤ_}
 use Rattle.integers.specs.Sum.{sumTo}
 use Rattle.integers.proofs.Parts.{le-to}
 use Rattle.integers.proofs.Linear.{zarith}
 use Rattle.integers.proofs.Order.{≤-trans, lt-le}
-use Rattle.integers.proofs.Absolute.{abs-add, abs-sub, abs-mul, abs-within}
-use Rattle.integers.proofs.Machine.{lt-false}
-use Rattle.integers.proofs.Sums.{sum-least}
+use Rattle.integers.proofs.Absolute.{abs-add, abs-sub, abs-mul}
+use Rattle.integers.proofs.Sums.{sum-same, sum-least, sum-pick, sum-swap}
 use Rattle.integers.proofs.Tactic.{zi, zo}
 use Rattle.records.specs.Content.{Content, unit, point, par}
 use Rattle.records.specs.Valid.{Valid}
@@ -22,7 +22,7 @@ use Rattle.figures.specs.Balance.{totalLoad, importInto, lineImports, zo
 use Rattle.figures.specs.Flow.{common, noncommon, unitFactor, zoneFactor, parFactor, outputTerm, weightedOutput, loadTerm, weightedLoad, firstDividend, loadShare, grossFlow, secondDividend, generationToLoad, parallel, shadow, control, carriedTerm, carriedSum, carried, redirect, nyisoMonitors, nonCommonRedirect, marketFlow}
 use Rattle.figures.proofs.Balanced.{natural-least, on-line-least, gross-load-most, gross-output-most, zone-load-least, net-load-above, net-generation-above, final-generation-least, final-generation-most}
 use Rattle.figures.proofs.Factors.{unit-factor-within, zone-factor-within, par-factor-within}
-use Rattle.figures.proofs.Sums.{sum-rise, sum-term, sum-weighted, sum-table, sum-once, quotient-share}
+use Rattle.figures.proofs.Sums.{sum-rise, sum-term, sum-weighted, quotient-share}
 use Rattle.figures.proofs.Ranges.{cond-within, times-within, over-pars, parallel-within, shadow-within, control-within}
 
 -- a number between 0 and k
@@ -64,15 +64,25 @@ net-load-gross : (c : Content) → netLoad c ≤ℤ grossLoad c
 unfolding netLoad grossLoad zoneLoad
 net-load-gross c = sum-rise (zoneLoad c) (totalLoad c) (length (c .zones)) (λ z l. less-left (totalLoad c z) (lineImports c z) (line-imports-least c z))
 
-zone-outputs-gross : (c : Content) → sumTo (zoneOutput c) (length (c .zones)) ≤ℤ grossOutput c
-unfolding zoneOutput grossOutput outputIn
-zone-outputs-gross c = sum-table (outputIn c) (output c) (length (c .zones)) (length (c .units)) (λ i l. sum-once (unit c i .zone) (output c i) (length (c .zones)) (output-least c i))
+-- every unit is in one of the sheet's zones
+module _ (c : Content) (v : Valid c) where
+  in-one : (i : ℕ) → i < length (c .units) → sumTo (λ z. outputIn c z i) (length (c .zones)) ≡ output c i
+  unfolding outputIn
+  in-one i l =
+      let u = v .unit-fits i l in
+      let k : unit c i .zone ≡ unit c i .zone - 1 + 1 = omega (arith, u .zone-least) in
+      sum-pick (λ z. cond (eqb (unit c i .zone) (z + 1)) (output c i) (pos 0)) (length (c .zones)) (unit c i .zone - 1) (omega (arith, u .zone-least, u .zone-most))
+      (λ z m n. rw (ne-eqb (unit c i .zone) (z + 1) (λ e. n (omega arith))))
+      ∙ rw (eq-eqb (unit c i .zone) (unit c i .zone - 1 + 1) k)
 
-net-generation-gross : (c : Content) → netGeneration c ≤ℤ grossOutput c
-unfolding netGeneration zoneGeneration
-net-generation-gross c =
-    ≤-trans (sum-rise (zoneGeneration c) (zoneOutput c) (length (c .zones)) (λ z l. less-left (zoneOutput c z) (lineExports c z) (line-exports-least c z)))
-    (zone-outputs-gross c)
+  pub gross-output-is : sumTo (zoneOutput c) (length (c .zones)) ≡ grossOutput c
+  unfolding zoneOutput grossOutput
+  gross-output-is = sum-swap (outputIn c) (length (c .zones)) (length (c .units)) ∙ sum-same _ _ (length (c .units)) in-one
+
+  net-generation-gross : netGeneration c ≤ℤ grossOutput c
+  unfolding netGeneration zoneGeneration
+  net-generation-gross =
+      rw (← gross-output-is) (sum-rise (zoneGeneration c) (zoneOutput c) (length (c .zones)) (λ z l. less-left (zoneOutput c z) (lineExports c z) (line-exports-least c z)))
 
 module _ {c : Content} (v : Valid c) (e : balanceRow c ≡ 0) where
   -- steps 1 and 2
@@ -89,7 +99,7 @@ module _ {c : Content} (v : Valid c) (e : balanceRow c ≡ 0) where
   gross-output-small = range (grossOutput c) 2000000 (sum-least (output c) (length (c .units)) (λ i l. output-least c i)) (gross-output-most c e)
 
   pub net-generation-small : natAbs (netGeneration c) ≤ 2000000
-  net-generation-small = range (netGeneration c) 2000000 (lt-le (net-generation-above c e)) (≤-trans (net-generation-gross c) (gross-output-most c e))
+  net-generation-small = range (netGeneration c) 2000000 (lt-le (net-generation-above c e)) (≤-trans (net-generation-gross c v) (gross-output-most c e))
 
   pub final-generation-small : natAbs (finalGeneration c) ≤ 2000000
   final-generation-small = le-trans (size-rise (finalGeneration c) (netGeneration c) (final-generation-least c e) (final-generation-most c e)) net-generation-small

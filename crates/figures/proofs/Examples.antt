@@ -149,7 +149,11 @@ computed-amounts = refl
 abbrev single : ℕ → ℕ → ℕ → List Point → Content
 single load losses output points = plain dear (zoneOf load losses ∷ []) (unitOf 1 output ∷ []) points []
 
--- content, and the first of refusals 16 to 21 or 0
+-- the first of refusals 16 to 21 or 0, and all that it goes through
+unfoldable pub refused : Content → ℕ
+unfolding printed grossLoad grossAboveLimit zoneLoadBelowZero finalLoadNotAboveZero zoneGenerationBelowZero isZero netGenerationZero finalGenerationBelowZero balanceRow
+refused c = balanceRow c
+
 abbrev balances : List (Content × ℕ)
 balances =
     (single 2000000 0 2000000 [], 0)
@@ -165,5 +169,5 @@ balances =
     ∷ []
 
 pub computed-balances : map (λ (r : Content × ℕ). (r .0, balanceRow (r .0))) balances ≡ balances
-unfolding printed grossLoad grossAboveLimit zoneLoadBelowZero finalLoadNotAboveZero zoneGenerationBelowZero isZero netGenerationZero finalGenerationBelowZero balanceRow
+unfolding refused
 computed-balances = refl

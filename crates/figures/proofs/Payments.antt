@@ -1,11 +1,10 @@
 -- A difference's price goes by its sign alone; and how large the payment's figures can be where refusal 22 is not met. Assumes nothing.
-use Prim.Native.Nat.{ℕ, zero, suc, _+_, _*_, _≤_}
+use Prim.Native.Nat.{zero, suc, _≤_}
 use native.Mathlib.Nat.{le-refl}
 use native.Mathlib.Omega.{arith}
 use mathlib.Core.Path.{_≡_, refl}
-use mathlib.Core.Bool.{Bool, true, false, cond}
 use lib.Dec.{lit<}
-use lib.IntN.{ℤ, pos, negsuc, negℤ, natAbs, _-ℤ_, _*ℤ_}
+use lib.IntN.{ℤ, pos, negsuc, negℤ, natAbs, _*ℤ_}
 use lib.Signed.{_<ℤ_, ltZ}
 use Rattle.integers.proofs.Parts.{lt-to}
 use Rattle.integers.proofs.Absolute.{abs-sub, abs-within}

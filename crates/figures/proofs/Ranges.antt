@@ -4,10 +4,10 @@ use native.Mathlib.Nat.{le-refl, le-trans, mul-le-mul, mul-le-mul-right}
 use native.Mathlib.Omega.{arith}
 use mathlib.Core.Bool.{Bool, true, false, cond}
 use lib.Dec.{eqb}
-use lib.IntN.{ℤ, pos, natAbs, _+ℤ_, _-ℤ_, _*ℤ_}
+use lib.IntN.{ℤ, pos, natAbs, _-ℤ_, _*ℤ_}
 use lib.ListN.{length}
 use Rattle.integers.specs.Sum.{sumTo}
-use Rattle.integers.proofs.Absolute.{abs-add, abs-sub, abs-mul}
+use Rattle.integers.proofs.Absolute.{abs-sub, abs-mul}
 use Rattle.integers.proofs.Linear.{zarith}
 use Rattle.integers.proofs.Sums.{sum-abs}
 use Rattle.integers.proofs.Tactic.{zi, zo}

@@ -4,15 +4,10 @@ use native.Mathlib.Nat.{mul-le-mul-right, le-trans}
 use native.Mathlib.Decide.{decLe, ℕ-discrete}
 use native.Mathlib.Omega.{arith}
 use mathlib.Core.Path.{_≡_, refl, sym, ap, _∙_}
-use mathlib.Core.Bool.{Bool, true, false, cond}
-use borrow.Author.Tests.{eqb-true}
-use lib.Dec.{eqb}
 use lib.IntN.{ℤ, pos, negsuc, natAbs, _+ℤ_, _-ℤ_, _*ℤ_}
 use lib.Signed.{_≤ℤ_, _<ℤ_, ≤ℤ-refl}
 use Rattle.integers.specs.Sum.{sumTo}
-use Rattle.integers.proofs.Parts.{le-to}
 use Rattle.integers.proofs.Linear.{zarith}
-use Rattle.integers.proofs.Order.{≤-trans}
 use Rattle.integers.proofs.Absolute.{abs-add, abs-sub, abs-mul}
 use Rattle.integers.proofs.Sums.{sum-abs, sum-least}
 use Rattle.integers.proofs.Tactic.{zi, zo}
@@ -65,51 +60,6 @@ sum-weighted f g k (suc n) h l =
       sum-weighted f g k n (λ i m. h i (omega arith)) (λ i m. l i (omega arith)),
       ap (λ m. k * m) (abs-both (sumTo g n) (g n) (sum-least g n (λ i m. l i (omega arith))) (l n (omega arith))),
     )
-
--- a table's cells, added by columns z and within them by lines i, where no line adds up to more than g i
-plus-swap : (x y a b : ℤ) → (x +ℤ y) +ℤ (a +ℤ b) ≡ (x +ℤ a) +ℤ (y +ℤ b)
-plus-swap x y a b = simp zi (simp zo (omega zarith))
-
-sum-plus : (f g : ℕ → ℤ) (n : ℕ) → sumTo (λ i. f i +ℤ g i) n ≡ sumTo f n +ℤ sumTo g n
-unfolding sumTo
-sum-plus f g zero = refl
-sum-plus f g (suc n) = ap (λ x. x +ℤ (f n +ℤ g n)) (sum-plus f g n) ∙ plus-swap (sumTo f n) (sumTo g n) (f n) (g n)
-
-sum-none : (n : ℕ) → sumTo (λ z. pos 0) n ≡ pos 0
-unfolding sumTo
-sum-none zero = refl
-sum-none (suc n) = ap (λ x. x +ℤ pos 0) (sum-none n)
-
-pub sum-table : (cell : ℕ → ℕ → ℤ) (g : ℕ → ℤ) (n m : ℕ) → ((i : ℕ) → i < m → sumTo (λ z. cell z i) n ≤ℤ g i) → sumTo (λ z. sumTo (cell z) m) n ≤ℤ sumTo g m
-unfolding sumTo
-sum-table cell g n zero h = rw (sum-none n) (≤ℤ-refl (pos 0))
-sum-table cell g n (suc m) h = rw (sum-plus (λ z. sumTo (cell z) m) (λ z. cell z m) n)
-    (plus-rise _ _ _ _ (sum-table cell g n m (λ i l. h i (omega arith))) (h m (omega arith)))
-
--- a number that stands at no more than one index, the one before k
-sum-before : (k : ℕ) (x : ℤ) (n : ℕ) → n < k → sumTo (λ z. cond (eqb k (z + 1)) x (pos 0)) n ≡ pos 0
-unfolding sumTo
-sum-before k x zero l = refl
-sum-before k x (suc n) l = rw (sum-before k x n (omega arith)) (by (eqb k (n + 1)) refl)
-  where
-    by : (b : Bool) → eqb k (n + 1) ≡ b → pos 0 +ℤ cond b x (pos 0) ≡ pos 0
-    by true e = absurd (omega (arith, eqb-true k (n + 1) e))
-    by false e = refl
-
-pub sum-once : (k : ℕ) (x : ℤ) (n : ℕ) → pos 0 ≤ℤ x → sumTo (λ z. cond (eqb k (z + 1)) x (pos 0)) n ≤ℤ x
-unfolding sumTo
-sum-once k x zero h = h
-sum-once k x (suc n) h = by (eqb k (n + 1)) refl (sum-once k x n h)
-  where
-    none : (x y : ℤ) → x ≡ pos 0 → (x +ℤ y) ≤ℤ y
-    none x y = simp zi (simp zo (omega zarith))
-
-    same : (x y : ℤ) → x ≤ℤ y → (x +ℤ pos 0) ≤ℤ y
-    same x y = simp zi (simp zo (omega zarith))
-
-    by : (b : Bool) → eqb k (n + 1) ≡ b → sumTo (λ z. cond (eqb k (z + 1)) x (pos 0)) n ≤ℤ x → (sumTo (λ z. cond (eqb k (z + 1)) x (pos 0)) n +ℤ cond b x (pos 0)) ≤ℤ x
-    by true e r = none _ x (sum-before k x n (omega (arith, eqb-true k (n + 1) e)))
-    by false e r = same _ x r
 
 -- a rounded quotient is at most k where the dividend is at most k divisors
 less-is : (n q r d : ℤ) → n ≡ q *ℤ d +ℤ r → q *ℤ d ≡ n -ℤ r
