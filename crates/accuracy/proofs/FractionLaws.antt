@@ -14,7 +14,7 @@ use Rattle.integers.proofs.Absolute.{abs-mul}
 use Rattle.integers.proofs.Tactic.{zi, zo, le-mul-abs}
 use Rattle.quotient.specs.Rounded.{quotient, remainder}
 use Rattle.quotient.proofs.Laws.{whole, near}
-use Rattle.figures.proofs.Balanced.{natural-least}
+use Rattle.figures.proofs.Numbers.{natural-least}
 use Rattle.accuracy.specs.Fraction.{Fraction, entire, _⊕_, _⊖_, _⊗_, _⊘_, half, sumOf, _≼_, Near}
 
 -- a product of numbers above zero

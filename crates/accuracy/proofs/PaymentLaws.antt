@@ -12,7 +12,7 @@ use Rattle.integers.proofs.Absolute.{abs-pos, abs-neg}
 use Rattle.integers.proofs.Tactic.{zi, zo}
 use Rattle.records.specs.declared.Head.{Head}
 use Rattle.figures.specs.Payment.{price}
-use Rattle.figures.proofs.Balanced.{natural-least, above-suc}
+use Rattle.figures.proofs.Numbers.{natural-least, above-suc}
 use Rattle.figures.proofs.Payments.{price-above, price-below}
 use Rattle.accuracy.specs.Fraction.{Fraction, _⊗_, Near}
 use Rattle.accuracy.specs.Exact.{exactPrice}

@@ -16,6 +16,7 @@ use Rattle.records.specs.declared.Place.{Place}
 use Rattle.records.specs.declared.Place.the-variants.{Proxy, Line}
 use Rattle.records.specs.Content.{Content, point}
 use Rattle.figures.specs.Balance.{onLine, atProxy, zoneLoad, netLoad, proxyImport, proxyImports, finalLoad, zoneGeneration, netGeneration, proxyExport, proxyExports, finalGeneration, grossLoad, grossOutput, grossAboveLimit, atLeastZero, zoneLoadBelowZero, finalLoadNotAboveZero, zoneGenerationBelowZero, isZero, netGenerationZero, finalGenerationBelowZero, balanceRow}
+use Rattle.figures.proofs.Numbers.{natural-least, above-suc, less-left}
 
 -- the rows one by one
 pub record NoneMet (c : Content) : Type 0 where
@@ -49,12 +50,6 @@ neither false b e = (refl, e)
 more-left : (n x : ℤ) → pos 0 ≤ℤ x → pos 0 <ℤ (n -ℤ x) → pos 0 <ℤ n
 more-left n x = simp zi (simp zo (omega zarith))
 
-less-left : (n x : ℤ) → pos 0 ≤ℤ x → (n -ℤ x) ≤ℤ n
-less-left n x = simp zi (simp zo (omega zarith))
-
-pub natural-least : (n : ℕ) → pos 0 ≤ℤ pos n
-natural-least n = simp zi (simp zo (omega zarith))
-
 pub on-line-least : (p : Place) (number x : ℕ) → pos 0 ≤ℤ onLine p number x
 unfolding onLine
 on-line-least Proxy number x = record { le = tt }
@@ -76,9 +71,6 @@ proxy-imports-least c = sum-least (proxyImport c) (length (c .points)) (λ i l. 
 pub proxy-exports-least : (c : Content) → pos 0 ≤ℤ proxyExports c
 unfolding proxyExports proxyExport
 proxy-exports-least c = sum-least (proxyExport c) (length (c .points)) (λ i l. at-proxy-least (point c i .place) (point c i .export))
-
-pub above-suc : (n : ℕ) → pos 0 <ℤ pos (suc n)
-above-suc n = simp zi (simp zo (omega zarith))
 
 not-zero : (x : ℤ) → isZero x ≡ false → pos 0 ≤ℤ x → pos 0 <ℤ x
 unfolding isZero

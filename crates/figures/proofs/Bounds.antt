@@ -1,4 +1,4 @@
--- How large each figure can be where none of refusals 16 to 21, and at the end 22, is met: every one fits an i64. Assumes nothing.
+-- How large each figure can be where none of refusals 16 to 21 is met. Every one fits an i64. Assumes nothing.
 use Prim.Native.Nat.{ℕ, _+_, _-_, _*_, _≤_, _<_}
 use native.Mathlib.Nat.{le-refl, le-trans, mul-le-mul-left}
 use native.Mathlib.Omega.{arith}
@@ -6,11 +6,10 @@ use mathlib.Core.Path.{_≡_, _∙_}
 use mathlib.Core.Bool.{Bool, true, false, cond}
 use borrow.Author.Tests.{eq-eqb, ne-eqb}
 use lib.Dec.{eqb}
-use lib.IntN.{ℤ, pos, negsuc, natAbs, _+ℤ_, _-ℤ_, _*ℤ_}
+use lib.IntN.{ℤ, pos, natAbs, _+ℤ_, _-ℤ_, _*ℤ_}
 use lib.ListN.{length}
 use lib.Signed.{_≤ℤ_}
 use Rattle.integers.specs.Sum.{sumTo}
-use Rattle.integers.proofs.Parts.{le-to}
 use Rattle.integers.proofs.Linear.{zarith}
 use Rattle.integers.proofs.Order.{≤-trans, lt-le}
 use Rattle.integers.proofs.Absolute.{abs-add, abs-sub, abs-mul}
@@ -20,23 +19,10 @@ use Rattle.records.specs.Content.{Content, unit, point, par}
 use Rattle.records.specs.Valid.{Valid}
 use Rattle.figures.specs.Balance.{totalLoad, importInto, lineImports, zoneLoad, netLoad, output, outputIn, zoneOutput, exportFrom, lineExports, zoneGeneration, netGeneration, finalGeneration, grossOutput, grossLoad, balanceRow}
 use Rattle.figures.specs.Flow.{common, noncommon, unitFactor, zoneFactor, parFactor, outputTerm, weightedOutput, loadTerm, weightedLoad, firstDividend, loadShare, grossFlow, secondDividend, generationToLoad, parallel, shadow, control, carriedTerm, carriedSum, carried, redirect, nyisoMonitors, nonCommonRedirect, marketFlow}
-use Rattle.figures.proofs.Balanced.{natural-least, on-line-least, gross-load-most, gross-output-most, zone-load-least, net-load-above, net-generation-above, final-generation-least, final-generation-most}
+use Rattle.figures.proofs.Numbers.{natural-least, less-left, size-most, size-rise, cond-within, times-within, sum-within, sum-rise, sum-term, sum-weighted, quotient-share}
+use Rattle.figures.proofs.Balanced.{on-line-least, gross-load-most, gross-output-most, zone-load-least, net-load-above, net-generation-above, final-generation-least, final-generation-most}
 use Rattle.figures.proofs.Factors.{unit-factor-within, zone-factor-within, par-factor-within}
-use Rattle.figures.proofs.Sums.{sum-rise, sum-term, sum-weighted, quotient-share}
-use Rattle.figures.proofs.Ranges.{cond-within, times-within, over-pars, parallel-within, shadow-within, control-within}
-
--- a number between 0 and k
-range : (x : ℤ) (k : ℕ) → pos 0 ≤ℤ x → x ≤ℤ pos k → natAbs x ≤ k
-range x k = simp zi (simp zo (omega zarith))
-
--- sizes in the order of two numbers that are not negative
-pub size-rise : (x y : ℤ) → pos 0 ≤ℤ x → x ≤ℤ y → natAbs x ≤ natAbs y
-size-rise (pos a) (pos b) h l = omega (arith, le-to l)
-size-rise (pos a) (negsuc b) h l = absurd (l .le)
-size-rise (negsuc a) y h l = absurd (h .le)
-
-less-left : (x y : ℤ) → pos 0 ≤ℤ y → (x -ℤ y) ≤ℤ x
-less-left x y = simp zi (simp zo (omega zarith))
+use Rattle.figures.proofs.Ranges.{parallel-within, shadow-within, control-within}
 
 -- a number times a factor
 weighted : (x f : ℤ) → natAbs f ≤ 10000 → natAbs (x *ℤ f) ≤ 10000 * natAbs x
@@ -87,7 +73,7 @@ module _ (c : Content) (v : Valid c) where
 module _ {c : Content} (v : Valid c) (e : balanceRow c ≡ 0) where
   -- steps 1 and 2
   pub net-load-small : natAbs (netLoad c) ≤ 2000000
-  net-load-small = range (netLoad c) 2000000 (lt-le (net-load-above c e)) (≤-trans (net-load-gross c) (gross-load-most c e))
+  net-load-small = size-most (netLoad c) 2000000 (lt-le (net-load-above c e)) (≤-trans (net-load-gross c) (gross-load-most c e))
 
   pub zone-load-small : (z : ℕ) → z < length (c .zones) → natAbs (zoneLoad c z) ≤ 2000000
   unfolding netLoad
@@ -96,10 +82,10 @@ module _ {c : Content} (v : Valid c) (e : balanceRow c ≡ 0) where
 
   pub gross-output-small : natAbs (grossOutput c) ≤ 2000000
   unfolding grossOutput
-  gross-output-small = range (grossOutput c) 2000000 (sum-least (output c) (length (c .units)) (λ i l. output-least c i)) (gross-output-most c e)
+  gross-output-small = size-most (grossOutput c) 2000000 (sum-least (output c) (length (c .units)) (λ i l. output-least c i)) (gross-output-most c e)
 
   pub net-generation-small : natAbs (netGeneration c) ≤ 2000000
-  net-generation-small = range (netGeneration c) 2000000 (lt-le (net-generation-above c e)) (≤-trans (net-generation-gross c v) (gross-output-most c e))
+  net-generation-small = size-most (netGeneration c) 2000000 (lt-le (net-generation-above c e)) (≤-trans (net-generation-gross c v) (gross-output-most c e))
 
   pub final-generation-small : natAbs (finalGeneration c) ≤ 2000000
   final-generation-small = le-trans (size-rise (finalGeneration c) (netGeneration c) (final-generation-least c e) (final-generation-most c e)) net-generation-small
@@ -169,7 +155,7 @@ module _ {c : Content} (v : Valid c) (e : balanceRow c ≡ 0) where
 
   pub carried-sum-small : (class : ℕ) → natAbs (carriedSum c class) ≤ 83200000000000000
   unfolding carriedSum
-  carried-sum-small class = over-pars v (carriedTerm c class) 10400000000000000 (carried-term-small class)
+  carried-sum-small class = sum-within (carriedTerm c class) 10400000000000000 (carried-term-small class) (v .pars-most)
 
   pub carried-small : (class : ℕ) → natAbs (carried c class) ≤ 8320000000000
   unfolding carried

@@ -1,6 +1,6 @@
+pub mod Numbers
 pub mod Balanced
 pub mod Factors
-pub mod Sums
 pub mod Ranges
 pub mod Bounds
 pub mod Payments

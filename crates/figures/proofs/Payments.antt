@@ -15,8 +15,7 @@ use Rattle.records.specs.Valid.{Valid, HeadFits}
 use Rattle.figures.specs.Flow.{settlementFlow, flowOutside, flowRow}
 use Rattle.figures.specs.Payment.{inWatts, difference, price, amountOf, counts, amount}
 use Rattle.figures.proofs.Balanced.{not-met, neither}
-use Rattle.figures.proofs.Sums.{quotient-share}
-use Rattle.figures.proofs.Ranges.{cond-within, times-within}
+use Rattle.figures.proofs.Numbers.{cond-within, times-within, quotient-share}
 
 pub price-above : (h : Head) (d : ℤ) → pos 0 <ℤ d → price h d ≡ pos (h .«monitoring_price»)
 unfolding price

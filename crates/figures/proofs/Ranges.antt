@@ -1,15 +1,12 @@
 -- How large each term and each sum can be on any content that passes rows 1 to 13. Assumes nothing.
 use Prim.Native.Nat.{ℕ, _+_, _*_, _≤_, _<_}
-use native.Mathlib.Nat.{le-refl, le-trans, mul-le-mul, mul-le-mul-right}
+use native.Mathlib.Nat.{le-refl}
 use native.Mathlib.Omega.{arith}
-use mathlib.Core.Bool.{Bool, true, false, cond}
 use lib.Dec.{eqb}
 use lib.IntN.{ℤ, pos, natAbs, _-ℤ_, _*ℤ_}
 use lib.ListN.{length}
-use Rattle.integers.specs.Sum.{sumTo}
-use Rattle.integers.proofs.Absolute.{abs-sub, abs-mul}
+use Rattle.integers.proofs.Absolute.{abs-sub}
 use Rattle.integers.proofs.Linear.{zarith}
-use Rattle.integers.proofs.Sums.{sum-abs}
 use Rattle.integers.proofs.Tactic.{zi, zo}
 use Rattle.records.specs.declared.Place.{Place}
 use Rattle.records.specs.declared.Place.the-variants.{Proxy, Line}
@@ -17,14 +14,8 @@ use Rattle.records.specs.Content.{Content, zone, unit, point, par}
 use Rattle.records.specs.Valid.{Valid}
 use Rattle.figures.specs.Balance.{onLine, atProxy, totalLoad, importInto, lineImports, zoneLoad, netLoad, proxyImport, proxyImports, finalLoad, output, outputIn, zoneOutput, exportFrom, lineExports, zoneGeneration, netGeneration, proxyExport, proxyExports, finalGeneration, grossOutput, grossLoad}
 use Rattle.figures.specs.Flow.{common, noncommon, outputTerm, loadTerm, netSchedule, scheduleTerm, scheduleFlow, parallel, shadow, controlTerm, control, unitFactor, zoneFactor, pointFactor, parFactor}
+use Rattle.figures.proofs.Numbers.{cond-within, times-within, sum-within}
 use Rattle.figures.proofs.Factors.{unit-factor-within, zone-factor-within, point-factor-within, par-factor-within}
-
-pub cond-within : (b : Bool) (x : ℤ) {k : ℕ} → natAbs x ≤ k → natAbs (cond b x (pos 0)) ≤ k
-cond-within true x h = h
-cond-within false x h = omega arith
-
-pub times-within : (x y : ℤ) {a b : ℕ} → natAbs x ≤ a → natAbs y ≤ b → natAbs (x *ℤ y) ≤ a * b
-times-within x y h k = omega (arith, abs-mul x y, mul-le-mul h k)
 
 -- power × factor × 10, in watts
 flow-within : (x f : ℤ) {a : ℕ} → natAbs x ≤ a → natAbs f ≤ 10000 → natAbs (x *ℤ f *ℤ pos 10) ≤ a * 10000 * 10
@@ -44,18 +35,6 @@ gap-within : (a b : ℕ) → a ≤ 200000 → b ≤ 200000 → natAbs (pos a -�
 gap-within a b = simp zi (simp zo (omega zarith))
 
 module _ {c : Content} (v : Valid c) where
-  over-zones : (f : ℕ → ℤ) (B : ℕ) → ((z : ℕ) → z < length (c .zones) → natAbs (f z) ≤ B) → natAbs (sumTo f (length (c .zones))) ≤ 32 * B
-  over-zones f B h = le-trans (sum-abs f B (length (c .zones)) h) (mul-le-mul-right B (v .zones-most))
-
-  over-units : (f : ℕ → ℤ) (B : ℕ) → ((i : ℕ) → i < length (c .units) → natAbs (f i) ≤ B) → natAbs (sumTo f (length (c .units))) ≤ 256 * B
-  over-units f B h = le-trans (sum-abs f B (length (c .units)) h) (mul-le-mul-right B (v .units-most))
-
-  over-points : (f : ℕ → ℤ) (B : ℕ) → ((i : ℕ) → i < length (c .points) → natAbs (f i) ≤ B) → natAbs (sumTo f (length (c .points))) ≤ 32 * B
-  over-points f B h = le-trans (sum-abs f B (length (c .points)) h) (mul-le-mul-right B (v .points-most))
-
-  pub over-pars : (f : ℕ → ℤ) (B : ℕ) → ((i : ℕ) → i < length (c .pars) → natAbs (f i) ≤ B) → natAbs (sumTo f (length (c .pars))) ≤ 8 * B
-  over-pars f B h = le-trans (sum-abs f B (length (c .pars)) h) (mul-le-mul-right B (v .pars-most))
-
   -- step 1
   pub total-load-within : (z : ℕ) → z < length (c .zones) → natAbs (totalLoad c z) ≤ 4000000
   unfolding totalLoad
@@ -67,7 +46,7 @@ module _ {c : Content} (v : Valid c) where
 
   pub line-imports-within : (z : ℕ) → natAbs (lineImports c z) ≤ 6400000
   unfolding lineImports
-  line-imports-within z = over-points (importInto c z) 200000 (import-into-within z)
+  line-imports-within z = sum-within (importInto c z) 200000 (import-into-within z) (v .points-most)
 
   pub zone-load-within : (z : ℕ) → z < length (c .zones) → natAbs (zoneLoad c z) ≤ 10400000
   unfolding zoneLoad
@@ -75,7 +54,7 @@ module _ {c : Content} (v : Valid c) where
 
   pub net-load-within : natAbs (netLoad c) ≤ 332800000
   unfolding netLoad
-  net-load-within = over-zones (zoneLoad c) 10400000 zone-load-within
+  net-load-within = sum-within (zoneLoad c) 10400000 zone-load-within (v .zones-most)
 
   pub proxy-import-within : (i : ℕ) → i < length (c .points) → natAbs (proxyImport c i) ≤ 200000
   unfolding proxyImport
@@ -83,7 +62,7 @@ module _ {c : Content} (v : Valid c) where
 
   pub proxy-imports-within : natAbs (proxyImports c) ≤ 6400000
   unfolding proxyImports
-  proxy-imports-within = over-points (proxyImport c) 200000 proxy-import-within
+  proxy-imports-within = sum-within (proxyImport c) 200000 proxy-import-within (v .points-most)
 
   pub final-load-within : natAbs (finalLoad c) ≤ 339200000
   unfolding finalLoad
@@ -100,7 +79,7 @@ module _ {c : Content} (v : Valid c) where
 
   pub zone-output-within : (z : ℕ) → natAbs (zoneOutput c z) ≤ 512000000
   unfolding zoneOutput
-  zone-output-within z = over-units (outputIn c z) 2000000 (output-in-within z)
+  zone-output-within z = sum-within (outputIn c z) 2000000 (output-in-within z) (v .units-most)
 
   pub export-from-within : (z i : ℕ) → i < length (c .points) → natAbs (exportFrom c z i) ≤ 200000
   unfolding exportFrom
@@ -108,7 +87,7 @@ module _ {c : Content} (v : Valid c) where
 
   pub line-exports-within : (z : ℕ) → natAbs (lineExports c z) ≤ 6400000
   unfolding lineExports
-  line-exports-within z = over-points (exportFrom c z) 200000 (export-from-within z)
+  line-exports-within z = sum-within (exportFrom c z) 200000 (export-from-within z) (v .points-most)
 
   pub zone-generation-within : (z : ℕ) → natAbs (zoneGeneration c z) ≤ 518400000
   unfolding zoneGeneration
@@ -116,7 +95,7 @@ module _ {c : Content} (v : Valid c) where
 
   pub net-generation-within : natAbs (netGeneration c) ≤ 16588800000
   unfolding netGeneration
-  net-generation-within = over-zones (zoneGeneration c) 518400000 (λ z l. zone-generation-within z)
+  net-generation-within = sum-within (zoneGeneration c) 518400000 (λ z l. zone-generation-within z) (v .zones-most)
 
   pub proxy-export-within : (i : ℕ) → i < length (c .points) → natAbs (proxyExport c i) ≤ 200000
   unfolding proxyExport
@@ -124,7 +103,7 @@ module _ {c : Content} (v : Valid c) where
 
   pub proxy-exports-within : natAbs (proxyExports c) ≤ 6400000
   unfolding proxyExports
-  proxy-exports-within = over-points (proxyExport c) 200000 proxy-export-within
+  proxy-exports-within = sum-within (proxyExport c) 200000 proxy-export-within (v .points-most)
 
   pub final-generation-within : natAbs (finalGeneration c) ≤ 16595200000
   unfolding finalGeneration
@@ -132,11 +111,11 @@ module _ {c : Content} (v : Valid c) where
 
   pub gross-output-within : natAbs (grossOutput c) ≤ 512000000
   unfolding grossOutput
-  gross-output-within = over-units (output c) 2000000 output-within
+  gross-output-within = sum-within (output c) 2000000 output-within (v .units-most)
 
   pub gross-load-within : natAbs (grossLoad c) ≤ 128000000
   unfolding grossLoad
-  gross-load-within = over-zones (totalLoad c) 4000000 total-load-within
+  gross-load-within = sum-within (totalLoad c) 4000000 total-load-within (v .zones-most)
 
   -- steps 3 and 4, for a target of the sheet
   pub net-schedule-within : (i : ℕ) → i < length (c .points) → natAbs (netSchedule c i) ≤ 200000
@@ -160,7 +139,7 @@ module _ {c : Content} (v : Valid c) where
 
     pub schedule-flow-within : (type : ℕ) → natAbs (scheduleFlow c type target) ≤ 640000000000
     unfolding scheduleFlow
-    schedule-flow-within type = over-points (scheduleTerm c type target) 20000000000 (schedule-term-within type)
+    schedule-flow-within type = sum-within (scheduleTerm c type target) 20000000000 (schedule-term-within type) (v .points-most)
 
     pub parallel-within : natAbs (parallel c target) ≤ 640000000000
     unfolding parallel
@@ -182,4 +161,4 @@ module _ {c : Content} (v : Valid c) where
 
   pub control-within : (class : ℕ) → natAbs (control c class) ≤ 320000000000
   unfolding control
-  control-within class = over-pars (controlTerm c class) 40000000000 (control-term-within class)
+  control-within class = sum-within (controlTerm c class) 40000000000 (control-term-within class) (v .pars-most)

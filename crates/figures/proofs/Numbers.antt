@@ -1,9 +1,10 @@
--- Laws of sums over indices that the figures' bounds rest on, and a sharp bound on a rounded quotient. Assumes nothing.
+-- Laws of numbers, of sums over indices and of the rounded quotient that the figures' bounds rest on. Assumes nothing.
 use Prim.Native.Nat.{ℕ, zero, suc, _+_, _*_, _≤_, _<_}
-use native.Mathlib.Nat.{mul-le-mul-right, le-trans}
+use native.Mathlib.Nat.{le-trans, mul-le-mul, mul-le-mul-right}
 use native.Mathlib.Decide.{decLe, ℕ-discrete}
 use native.Mathlib.Omega.{arith}
 use mathlib.Core.Path.{_≡_, refl, sym, ap, _∙_}
+use mathlib.Core.Bool.{Bool, true, false, cond}
 use lib.IntN.{ℤ, pos, negsuc, natAbs, _+ℤ_, _-ℤ_, _*ℤ_}
 use lib.Signed.{_≤ℤ_, _<ℤ_, ≤ℤ-refl}
 use Rattle.integers.specs.Sum.{sumTo}
@@ -14,9 +15,38 @@ use Rattle.integers.proofs.Tactic.{zi, zo}
 use Rattle.quotient.specs.Rounded.{quotient, remainder}
 use Rattle.quotient.proofs.Laws.{whole, near}
 
--- the sum so far, of n terms within B each
-pub partial-within : (f : ℕ → ℤ) (B n m : ℕ) → ((i : ℕ) → i < n → natAbs (f i) ≤ B) → m ≤ n → natAbs (sumTo f m) ≤ n * B
-partial-within f B n m h l = le-trans (sum-abs f B m (λ i k. h i (omega arith))) (mul-le-mul-right B l)
+pub natural-least : (n : ℕ) → pos 0 ≤ℤ pos n
+natural-least n = simp zi (simp zo (omega zarith))
+
+pub above-suc : (n : ℕ) → pos 0 <ℤ pos (suc n)
+above-suc n = simp zi (simp zo (omega zarith))
+
+pub less-left : (x y : ℤ) → pos 0 ≤ℤ y → (x -ℤ y) ≤ℤ x
+less-left x y = simp zi (simp zo (omega zarith))
+
+-- a number between 0 and k, and one between 0 and another
+pub size-most : (x : ℤ) (k : ℕ) → pos 0 ≤ℤ x → x ≤ℤ pos k → natAbs x ≤ k
+size-most x k = simp zi (simp zo (omega zarith))
+
+pub size-rise : (x y : ℤ) → pos 0 ≤ℤ x → x ≤ℤ y → natAbs x ≤ natAbs y
+size-rise x (pos b) h l = size-most x b h l
+size-rise (pos a) (negsuc b) h l = absurd (l .le)
+size-rise (negsuc a) (negsuc b) h l = absurd (h .le)
+
+-- a number or 0, and a product
+pub cond-within : (b : Bool) (x : ℤ) {k : ℕ} → natAbs x ≤ k → natAbs (cond b x (pos 0)) ≤ k
+cond-within true x h = h
+cond-within false x h = omega arith
+
+pub times-within : (x y : ℤ) {a b : ℕ} → natAbs x ≤ a → natAbs y ≤ b → natAbs (x *ℤ y) ≤ a * b
+times-within x y h k = omega (arith, abs-mul x y, mul-le-mul h k)
+
+-- a sum of at most m terms within B each; and the sum so far, of n such terms
+pub sum-within : (f : ℕ → ℤ) (B : ℕ) {n m : ℕ} → ((i : ℕ) → i < n → natAbs (f i) ≤ B) → n ≤ m → natAbs (sumTo f n) ≤ m * B
+sum-within f B {n} h l = le-trans (sum-abs f B n h) (mul-le-mul-right B l)
+
+pub partial-within : (f : ℕ → ℤ) (B : ℕ) {n m : ℕ} → ((i : ℕ) → i < n → natAbs (f i) ≤ B) → m ≤ n → natAbs (sumTo f m) ≤ n * B
+partial-within f B h l = sum-within f B (λ i k. h i (omega arith)) l
 
 -- terms that are no larger
 plus-rise : (x y a b : ℤ) → x ≤ℤ y → a ≤ℤ b → (x +ℤ a) ≤ℤ (y +ℤ b)
