@@ -47,7 +47,13 @@ dear = headOf 2 900 400000 100000
 
 -- the numbers of the printed statement, in its order
 unfoldable pub printed : Content → ℤ → List ℤ
-unfolding sumTo allTo goesAway away step quotient remainder bears factorFor onLine atProxy totalLoad importInto lineImports zoneLoad netLoad proxyImport proxyImports finalLoad output outputIn zoneOutput exportFrom lineExports zoneGeneration netGeneration proxyExport proxyExports finalGeneration grossOutput unitFactor zoneFactor pointFactor parFactor outputTerm weightedOutput loadTerm weightedLoad firstDividend loadShare firstRemainder grossFlow secondDividend generationToLoad secondRemainder netSchedule scheduleTerm scheduleFlow parallel shadow controlTerm control carriedTerm carriedSum carried redirect nyisoMonitors nonCommonRedirect marketFlow settlementFlow inWatts difference price amountOf counts priceTaken amount payment
+unfolding sumTo goesAway away step quotient remainder bears factorFor
+    onLine atProxy totalLoad importInto lineImports zoneLoad netLoad output outputIn zoneOutput exportFrom lineExports zoneGeneration netGeneration
+    proxyExport proxyExports finalGeneration grossOutput
+    unitFactor zoneFactor pointFactor parFactor outputTerm weightedOutput loadTerm weightedLoad firstDividend loadShare firstRemainder grossFlow
+    secondDividend generationToLoad secondRemainder netSchedule scheduleTerm scheduleFlow parallel shadow controlTerm control carriedTerm carriedSum
+    carried redirect nyisoMonitors nonCommonRedirect marketFlow settlementFlow
+    inWatts difference price amountOf counts priceTaken amount payment
 printed c entitlement =
     generationToLoad c 0
     ∷ firstRemainder c 0
@@ -151,7 +157,7 @@ single load losses output points = plain dear (zoneOf load losses ∷ []) (unitO
 
 -- the first of refusals 16 to 21 or 0, and all that it goes through
 unfoldable pub refused : Content → ℕ
-unfolding printed grossLoad grossAboveLimit zoneLoadBelowZero finalLoadNotAboveZero zoneGenerationBelowZero isZero netGenerationZero finalGenerationBelowZero balanceRow
+unfolding printed allTo proxyImport proxyImports finalLoad grossLoad grossAboveLimit zoneLoadBelowZero finalLoadNotAboveZero zoneGenerationBelowZero isZero netGenerationZero finalGenerationBelowZero balanceRow
 refused c = balanceRow c
 
 abbrev balances : List (Content × ℕ)

@@ -14,7 +14,7 @@ use Rattle.records.specs.Content.{Content, zone, unit, point, par}
 use Rattle.records.specs.Valid.{Valid}
 use Rattle.figures.specs.Balance.{onLine, atProxy, totalLoad, importInto, lineImports, zoneLoad, netLoad, proxyImport, proxyImports, finalLoad, output, outputIn, zoneOutput, exportFrom, lineExports, zoneGeneration, netGeneration, proxyExport, proxyExports, finalGeneration, grossOutput, grossLoad}
 use Rattle.figures.specs.Flow.{common, noncommon, outputTerm, loadTerm, netSchedule, scheduleTerm, scheduleFlow, parallel, shadow, controlTerm, control, unitFactor, zoneFactor, pointFactor, parFactor}
-use Rattle.figures.proofs.Numbers.{cond-within, times-within, sum-within}
+pub use Rattle.figures.proofs.Numbers.{cond-within, times-within, sum-within}
 use Rattle.figures.proofs.Factors.{unit-factor-within, zone-factor-within, point-factor-within, par-factor-within}
 
 -- power × factor × 10, in watts
