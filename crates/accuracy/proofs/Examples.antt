@@ -7,7 +7,6 @@ use lib.Dec.{lit≤}
 use lib.IntN.{ℤ, pos, negsuc, natAbs, _-ℤ_, _*ℤ_}
 use lib.ListN.{length}
 use lib.Signed.{_<ℤ_}
-use Rattle.due.specs.Due.{tab, each, flowgate, perPar, dueList}
 use Rattle.records.specs.declared.Place.the-variants.{Proxy}
 use Rattle.records.specs.Content.{Content, head}
 use Rattle.records.specs.Valid.{Valid}
@@ -15,7 +14,7 @@ use Rattle.figures.specs.Balance.{balanceRow}
 use Rattle.figures.specs.Flow.{common, noncommon, marketFlow}
 use Rattle.figures.specs.Payment.{priceTaken, amount}
 use Rattle.figures.proofs.Examples.{printed, refused, headOf, zoneOf, unitOf, pointOf, parOf, factorOf, plain, sheetS, thirds, exporting}
-use Rattle.figures.proofs.Accepted.{proxy-fits, valid-of, s-valid, s-balanced}
+use Rattle.figures.proofs.Accepted.{proxy-fits, dueCount, valid-of, s-valid, s-balanced}
 use Rattle.accuracy.specs.Fraction.{Fraction, entire, _⊕_, _⊖_, _⊗_, _⊘_, sumOf, Equals, Near}
 use Rattle.accuracy.specs.Exact.{exactGenerationToLoad, exactCarriedTerm, exactRedirect, exactNonCommonRedirect, exactMarketFlow, exactSettlementFlow, exactDifference, exactPrice, exactAmountOf, exactAmount}
 use Rattle.accuracy.specs.Accurate.{marketBound, Accurate}
@@ -49,7 +48,7 @@ brink =
     (factorOf 0 1 1 (pos 1) ∷ factorOf 0 2 1 (pos 1) ∷ factorOf 0 2 2 (pos 0) ∷ factorOf 0 3 1 (pos 9999) ∷ [])
 
 brink-valid : Valid brink
-unfolding tab each flowgate perPar dueList
+unfolding dueCount
 brink-valid = valid-of brink (omega arith) (omega arith) (record { sort-least = lit≤ tt; sort-most = lit≤ tt; place = proxy-fits 2; import = lit≤ tt; export = lit≤ tt }, tt)
 
 brink-balanced : balanceRow brink ≡ 0
@@ -106,7 +105,7 @@ unfolding settled
 far-beyond = record { lt = tt }
 
 far-valid : Valid far
-unfolding tab each flowgate perPar dueList
+unfolding dueCount
 far-valid = valid-of far (omega arith) (omega arith) (record { sort-least = lit≤ tt; sort-most = lit≤ tt; place = proxy-fits 2; import = lit≤ tt; export = lit≤ tt }, tt)
 
 far-balanced : balanceRow far ≡ 0

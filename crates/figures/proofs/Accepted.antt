@@ -46,6 +46,11 @@ line-fits zones k a b n e = let q : k ≡ n = cc in omega arith
 pub proxy-fits : (zones n : ℕ) → Proxy ≡ Line n → LineFits zones n
 proxy-fits zones n e = let q : _≡_ {A = ℕ} 0 1 = cc in omega arith
 
+-- how many factors are due
+unfoldable pub dueCount : Content → ℕ
+unfolding tab each flowgate perPar dueList
+dueCount c = length (dueList (length (c .zones)) (length (c .units)) (length (c .points)) (length (c .pars)))
+
 -- what passes rows 1 to 13, from a test of each record
 pub record Tested (c : Content) : Type 0 where
   pub heads : length (c .heads) ≡ 1
@@ -55,13 +60,14 @@ pub record Tested (c : Content) : Type 0 where
   pub units-most : length (c .units) ≤ 256
   pub points-most : length (c .points) ≤ 32
   pub pars-most : length (c .pars) ≤ 8
-  pub due : length (c .factors) ≡ length (dueList (length (c .zones)) (length (c .units)) (length (c .points)) (length (c .pars)))
+  pub due : length (c .factors) ≡ dueCount c
   pub head : HeadFits (head c)
   pub zones : All ZoneFits (c .zones)
   pub units : All (UnitFits (length (c .zones))) (c .units)
   pub pars : All ParFits (c .pars)
 
 pub valid-of : (c : Content) → Tested c → All FactorFits (c .factors) → All (PointFits (length (c .zones))) (c .points) → Valid c
+unfolding dueCount
 valid-of c t f p = record {
   heads = t .heads;
   zones-least = t .zones-least;
@@ -80,7 +86,7 @@ valid-of c t f p = record {
 }
 
 pub s-valid : Valid sheetS
-unfolding tab each flowgate perPar dueList
+unfolding dueCount
 s-valid =
     valid-of sheetS (omega arith) (omega arith) (
       record { sort-least = lit≤ tt; sort-most = lit≤ tt; place = line-fits 2 2 (lit≤ tt) (lit≤ tt); import = lit≤ tt; export = lit≤ tt },
