@@ -45,6 +45,10 @@ output-least : (c : Content) (i : ℕ) → pos 0 ≤ℤ output c i
 unfolding output
 output-least c i = natural-least (unit c i .output)
 
+pub gross-output-least : (c : Content) → pos 0 ≤ℤ grossOutput c
+unfolding grossOutput
+gross-output-least c = sum-least (output c) (length (c .units)) (λ i l. output-least c i)
+
 -- imports only reduce the load, and exports the generation
 net-load-gross : (c : Content) → netLoad c ≤ℤ grossLoad c
 unfolding netLoad grossLoad zoneLoad
@@ -81,8 +85,7 @@ module _ {c : Content} (v : Valid c) (e : balanceRow c ≡ 0) where
       le-trans (size-rise (zoneLoad c z) (netLoad c) (zone-load-least c e z l) (sum-term (zoneLoad c) (length (c .zones)) z (zone-load-least c e) l)) net-load-small
 
   pub gross-output-small : natAbs (grossOutput c) ≤ 2000000
-  unfolding grossOutput
-  gross-output-small = size-most (grossOutput c) 2000000 (sum-least (output c) (length (c .units)) (λ i l. output-least c i)) (gross-output-most c e)
+  gross-output-small = size-most (grossOutput c) 2000000 (gross-output-least c) (gross-output-most c e)
 
   pub net-generation-small : natAbs (netGeneration c) ≤ 2000000
   net-generation-small = size-most (netGeneration c) 2000000 (lt-le (net-generation-above c e)) (≤-trans (net-generation-gross c v) (gross-output-most c e))
