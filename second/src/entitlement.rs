@@ -15,7 +15,7 @@ pub fn entitlement(list: &[u8], flowgate: &Name) -> Result<i64, u8> {
         return Err(14);
     }
     let mut found = Err(15);
-    let mut names = NamesSeen::new();
+    let mut names = NamesSeen::expecting(records.len());
     for record in records {
         let (name, value) = entry(record).ok_or(14)?;
         if !names.note(name) {

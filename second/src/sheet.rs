@@ -237,7 +237,7 @@ impl<'a> Reader<'a> {
             bytes,
             place: 1 + body.len(),
             kind: HEAD,
-            names: NamesSeen::new(),
+            names: NamesSeen::expecting(MOST_UNITS),
             due: None,
             sheet: Sheet::opened_by(head(body).map_err(refuse)?),
         })
