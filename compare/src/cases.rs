@@ -1,11 +1,12 @@
 //! The case files below tests/cases, made bytes by tools/m2m-text.
 
+use std::fmt;
 use std::path::{Path, PathBuf};
 use std::process::Command;
 
 use second::listing;
 
-use crate::check::{check, Mismatch};
+use crate::check::{check, Mismatch, Trouble};
 use crate::inputs::{Input, Room};
 use crate::side::{Second, Side};
 use crate::tally::Tally;
@@ -20,6 +21,17 @@ pub enum Expected {
     Line(String),
 }
 
+impl fmt::Display for Expected {
+    fn fmt(&self, f: &mut fmt::Formatter) -> fmt::Result {
+        match self {
+            Expected::Refusal(0) => write!(f, "accepted"),
+            Expected::Refusal(number) => write!(f, "refused {number}"),
+            Expected::Place(place) => write!(f, "place {place}"),
+            Expected::Line(line) => write!(f, "{line}"),
+        }
+    }
+}
+
 #[derive(Debug)]
 pub struct Case {
     pub input: Input,
@@ -30,7 +42,8 @@ pub struct Case {
 
 /// The folder that holds this package.
 pub fn root() -> PathBuf {
-    Path::new(env!("CARGO_MANIFEST_DIR")).join("..")
+    let package = Path::new(env!("CARGO_MANIFEST_DIR"));
+    package.parent().unwrap_or(package).to_path_buf()
 }
 
 /// All cases below a folder.
@@ -103,8 +116,8 @@ fn from_hex(digits: &str) -> Option<Vec<u8>> {
 }
 
 /// Runs a case on both sides; a mismatch comes with the input that shows it.
-pub fn run(case: &Case, tested: &dyn Side, tally: &mut Tally) -> Result<(), (Input, Mismatch)> {
-    let trouble = |mismatch| (case.input.clone(), mismatch);
+pub fn run(case: &Case, tested: &dyn Side, tally: &mut Tally) -> Result<(), Box<Trouble>> {
+    let trouble = |mismatch| Trouble::boxed(&case.input, mismatch);
     for (side, name) in [(&Second as &dyn Side, "second"), (tested, "tested")] {
         for expected in &case.expected {
             meets(side, name, &case.input, expected).map_err(trouble)?;
@@ -128,17 +141,14 @@ fn meets(side: &dyn Side, name: &str, input: &Input, expected: &Expected) -> Res
     let lines = String::from_utf8_lossy(&listing(&statement)).into_owned();
     let place = side.read(&input.sheet).place;
     let (met, found) = match expected {
-        Expected::Refusal(number) => (statement.refusal == *number, format!("{statement:?}")),
+        Expected::Refusal(number) => (statement.refusal == *number, text::statement(&statement)),
         Expected::Place(wanted) => (place == *wanted, format!("place {place}")),
         Expected::Line(line) => (lines.lines().any(|found| found == line), lines),
     };
     if met {
         return Ok(());
     }
-    let mut mismatch = Mismatch::of("expected of the case", "", "");
-    mismatch.second = format!("{expected:?} is expected by the case file");
-    mismatch.tested = format!("{found} is the {name} side's answer");
-    Err(mismatch)
+    Err(Mismatch::unexpected(expected, name, found))
 }
 
 /// Every beginning of an accepted sheet is refused: 1 where nothing is left, 3
@@ -147,7 +157,7 @@ pub fn every_truncation(
     input: &Input,
     tested: &dyn Side,
     tally: &mut Tally,
-) -> Result<(), (Input, Mismatch)> {
+) -> Result<(), Box<Trouble>> {
     let (records, _) = text::split(&input.sheet, true);
     let mut begin = 0;
     for (k, record) in records.iter().enumerate() {
@@ -164,7 +174,7 @@ pub fn every_truncation(
             let outcome = meets(tested, "tested", &cut, &refusal)
                 .and_then(|()| meets(tested, "tested", &cut, &Expected::Place(begin)))
                 .and_then(|()| check(tested, &cut, tally));
-            outcome.map_err(|mismatch| (cut, mismatch))?;
+            outcome.map_err(|mismatch| Trouble::boxed(&cut, mismatch))?;
         }
         begin += record.len();
     }
@@ -176,12 +186,12 @@ pub fn every_buffer(
     input: &Input,
     tested: &dyn Side,
     tally: &mut Tally,
-) -> Result<(), (Input, Mismatch)> {
+) -> Result<(), Box<Trouble>> {
     let listed = listing(&Second.settle(&input.sheet, &input.list)).len();
     for length in 0..listed + 20 {
         let mut input = input.clone();
         input.room = Room::Length(length);
-        check(tested, &input, tally).map_err(|mismatch| (input, mismatch))?;
+        check(tested, &input, tally).map_err(|mismatch| Trouble::boxed(&input, mismatch))?;
     }
     Ok(())
 }

@@ -10,11 +10,11 @@ impl Chance {
     /// The chance of one input among those of a seed.
     pub fn of(seed: u64, input: u64) -> Self {
         let mut chance = Chance { state: seed };
-        chance.state = chance.next() ^ input.wrapping_mul(0xd134_2543_de82_ef95);
+        chance.state = chance.draw() ^ input.wrapping_mul(0xd134_2543_de82_ef95);
         chance
     }
 
-    pub fn next(&mut self) -> u64 {
+    pub fn draw(&mut self) -> u64 {
         self.state = self.state.wrapping_add(0x9e37_79b9_7f4a_7c15);
         let z = (self.state ^ (self.state >> 30)).wrapping_mul(0xbf58_476d_1ce4_e5b9);
         let z = (z ^ (z >> 27)).wrapping_mul(0x94d0_49bb_1331_11eb);
@@ -23,7 +23,7 @@ impl Chance {
 
     /// 0 up to the limit, which is left out.
     pub fn below(&mut self, limit: usize) -> usize {
-        ((u128::from(self.next()) * limit as u128) >> 64) as usize
+        ((u128::from(self.draw()) * limit as u128) >> 64) as usize
     }
 
     pub fn within(&mut self, range: RangeInclusive<i64>) -> i64 {

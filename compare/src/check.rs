@@ -1,6 +1,6 @@
 //! One input on both sides.
 
-use std::fmt::Debug;
+use std::fmt::{Debug, Display};
 
 use second::draft;
 use second::exact::{self, Rounded, RoundedTarget};
@@ -17,17 +17,40 @@ use crate::text;
 #[derive(Debug)]
 pub struct Mismatch {
     pub what: String,
-    pub second: String,
-    pub tested: String,
+    /// Both answers, each behind the name of its side.
+    pub answers: [String; 2],
 }
 
 impl Mismatch {
-    pub fn of(what: &str, second: impl Debug, tested: impl Debug) -> Self {
+    pub fn of(what: &str, second: impl Display, tested: impl Display) -> Self {
         Mismatch {
             what: what.to_string(),
-            second: format!("{second:?}"),
-            tested: format!("{tested:?}"),
+            answers: [format!("second: {second}"), format!("tested: {tested}")],
         }
+    }
+
+    /// An answer that is not the one of a case file.
+    pub fn unexpected(expected: impl Display, side: &str, found: impl Display) -> Self {
+        Mismatch {
+            what: String::from("case file"),
+            answers: [format!("expected: {expected}"), format!("{side}: {found}")],
+        }
+    }
+}
+
+/// A mismatch with the input that shows it.
+#[derive(Debug)]
+pub struct Trouble {
+    pub input: Input,
+    pub mismatch: Mismatch,
+}
+
+impl Trouble {
+    pub fn boxed(input: &Input, mismatch: Mismatch) -> Box<Self> {
+        Box::new(Trouble {
+            input: input.clone(),
+            mismatch,
+        })
     }
 }
 
@@ -35,6 +58,15 @@ fn same<T: PartialEq + Debug>(what: &str, second: T, tested: T) -> Result<(), Mi
     if second == tested {
         return Ok(());
     }
+    let [second, tested] = [second, tested].map(|answer| format!("{answer:?}"));
+    Err(Mismatch::of(what, second, tested))
+}
+
+fn same_statement(what: &str, second: Statement, tested: Statement) -> Result<(), Mismatch> {
+    if second == tested {
+        return Ok(());
+    }
+    let [second, tested] = [text::statement(&second), text::statement(&tested)];
     Err(Mismatch::of(what, second, tested))
 }
 
@@ -59,7 +91,7 @@ pub fn check(tested: &dyn Side, input: &Input, tally: &mut Tally) -> Result<(), 
     let (sheet, list) = (&input.sheet[..], &input.list[..]);
     same("reading", Second.read(sheet), tested.read(sheet))?;
     let statement = Second.settle(sheet, list);
-    same("statement", statement, tested.settle(sheet, list))?;
+    same_statement("statement", statement, tested.settle(sheet, list))?;
     for name in names_of(sheet, list) {
         let value = Second.entitlement(list, &name);
         same("entitlement", value, tested.entitlement(list, &name))?;
@@ -101,7 +133,7 @@ fn printing(tested: &dyn Side, input: &Input, statement: &Statement) -> Result<u
     for side in [&Second as &dyn Side, tested] {
         let mut out = patterned(length);
         let answer = side.settle_into(sheet, list, &mut out);
-        same("statement with its listing", expected, answer)?;
+        same_statement("statement with its listing", expected, answer)?;
         if out != buffer {
             let shown = [&buffer, &out].map(|bytes| bytes.escape_ascii().to_string());
             return Err(Mismatch::of("output buffer", &shown[0], &shown[1]));

@@ -5,7 +5,7 @@ use second::names::Name;
 
 use crate::chance::Chance;
 use crate::inputs::{list_with, sound, Input, Room, MOST_ENTITLEMENTS};
-use crate::interval::{names, Interval};
+use crate::interval::{names, Interval, Unit};
 
 pub const REFUSALS: u8 = 23;
 
@@ -115,13 +115,7 @@ fn doubled_name(chance: &mut Chance, interval: &mut Interval) {
             let at = chance.below(interval.units.len() - 1);
             interval.units[at].name = interval.units[at + 1].name;
         }
-        _ => {
-            interval.units.push(interval.units[0].clone());
-            interval.flowgate.units.push(0);
-            for factors in &mut interval.on_pars {
-                factors.units.push(0);
-            }
-        }
+        _ => add_unit(interval, interval.units[0].clone()),
     }
 }
 
@@ -168,7 +162,6 @@ fn some_point(chance: &mut Chance, interval: &mut Interval) -> usize {
     }
 }
 
-/// Takes the schedules off, except for the loads or generation that lines reduce.
 fn clear_schedules(interval: &mut Interval) {
     for point in &mut interval.points {
         (point.import, point.export) = (0, 0);
@@ -181,41 +174,49 @@ fn in_balance(chance: &mut Chance, interval: &mut Interval, row: u8) {
         17..=19 | 21 => some_point(chance, interval),
         _ => 0,
     };
-    let little = chance.pick(&[1, 2, 100]);
     match row {
-        16 => {
-            let zone = chance.below(interval.zones.len());
-            if chance.one_in(2) {
-                interval.zones[zone].load = 2_000_000;
-                interval.zones[zone].losses = little;
-            } else {
-                interval.units[0].output = 2_000_000;
-                let mut more = interval.units[0].clone();
-                (more.name, more.output) = ([b'm'; 16], little);
-                match interval.units.get_mut(1) {
-                    Some(unit) => unit.output = little,
-                    None => add_unit(interval, more),
-                }
-            }
-        }
-        17 => {
-            let zone = chance.below(interval.zones.len());
-            (interval.zones[zone].load, interval.zones[zone].losses) = (little, 0);
-            interval.points[point].place = zone as u8 + 1;
-            interval.points[point].import = little + chance.pick(&[1, 50]);
-        }
-        18 => {
-            clear_schedules(interval);
-            for zone in &mut interval.zones {
-                (zone.load, zone.losses) = (0, 0);
-            }
-            interval.zones[0].losses = little;
-            interval.points[point].place = 0;
-            interval.points[point].import = little + chance.pick(&[0, 1, 50]);
-        }
+        16 => too_much(chance, interval),
+        17..=18 => in_loads(chance, interval, row, point),
         22 => beyond_the_limit(chance, interval),
         _ => in_generation(chance, interval, row, point),
     }
+}
+
+/// Row 16: a little more than 2,000,000 of loads with losses, or of outputs.
+fn too_much(chance: &mut Chance, interval: &mut Interval) {
+    let little = chance.pick(&[1, 2, 100]);
+    if chance.one_in(2) {
+        let zone = chance.below(interval.zones.len());
+        interval.zones[zone].load = 2_000_000;
+        interval.zones[zone].losses = little;
+        return;
+    }
+    if interval.units.len() == 1 {
+        let mut more = interval.units[0].clone();
+        more.name = [b'm'; 16];
+        add_unit(interval, more);
+    }
+    interval.units[0].output = 2_000_000;
+    interval.units[1].output = little;
+}
+
+/// Rows 17 and 18.
+fn in_loads(chance: &mut Chance, interval: &mut Interval, row: u8, point: usize) {
+    let little = chance.pick(&[1, 2, 100]);
+    if row == 17 {
+        let zone = chance.below(interval.zones.len());
+        (interval.zones[zone].load, interval.zones[zone].losses) = (little, 0);
+        interval.points[point].place = zone as u8 + 1;
+        interval.points[point].import = little + chance.pick(&[1, 50]);
+        return;
+    }
+    clear_schedules(interval);
+    for zone in &mut interval.zones {
+        (zone.load, zone.losses) = (0, 0);
+    }
+    interval.zones[0].losses = little;
+    interval.points[point].place = 0;
+    interval.points[point].import = little + chance.pick(&[0, 1, 50]);
 }
 
 /// Rows 19 to 21.
@@ -238,7 +239,7 @@ fn in_generation(chance: &mut Chance, interval: &mut Interval, row: u8, point: u
     interval.points[point].export = little + chance.pick(&[1, 50]);
 }
 
-fn add_unit(interval: &mut Interval, unit: crate::interval::Unit) {
+fn add_unit(interval: &mut Interval, unit: Unit) {
     interval.units.push(unit);
     interval.flowgate.units.push(0);
     for factors in &mut interval.on_pars {

@@ -205,46 +205,61 @@ fn at_the_entitlement(chance: &mut Chance) -> Input {
     Input::of("next to the entitlement", sheet, list)
 }
 
-/// Market flows of one or two watts against the entitlement of 0, where rounding
-/// decides the side.
+/// A market flow of one watt against the entitlement of 0, with as much rounding as
+/// there can be: now and then the exact flow lies on the other side.
 fn next_to_zero(chance: &mut Chance) -> Input {
-    let sizes = Sizes {
-        zones: 2,
-        units: 1,
-        points: chance.below(2),
-        pars: 1 + chance.below(2),
-    };
     let mut input = tiny(chance);
-    for _ in 0..60 {
-        let mut interval = drawn(chance, sizes, Scale::TINY);
-        interval
-            .pars
-            .iter_mut()
-            .for_each(|par| par.target = par.actual);
-        for factor in &mut interval.flowgate.pars {
-            *factor = chance.pick(&[3000, 5000, 7000, -7000, 10_000, -10_000]);
-        }
-        let list = draft::entitlement(interval.name, 0);
-        input = Input::of("a watt or two", interval.records().concat(), list);
-        if (1..=2).contains(&settle(&input.sheet, &input.list).market.abs()) {
+    for _ in 0..30 {
+        let interval = much_rounded(chance);
+        input.sheet = interval.records().concat();
+        input.list = draft::entitlement(interval.name, 0);
+        input.origin = String::from("a watt or so");
+        if settle(&input.sheet, &input.list).market.abs() == 1 {
             break;
         }
     }
     input
 }
 
+/// A market flow of a few watts, with seven PARs that carry all of their flows.
+fn much_rounded(chance: &mut Chance) -> Interval {
+    let sizes = Sizes {
+        zones: 2 + chance.below(3),
+        units: 1 + chance.below(3),
+        points: chance.below(3),
+        pars: Sizes::LONGEST.pars - 1,
+    };
+    let scale = Scale {
+        power: 40,
+        factor: 50,
+    };
+    let mut interval = drawn(chance, sizes, scale);
+    interval.monitoring = 2;
+    for (par, factor) in interval.pars.iter_mut().zip(&mut interval.flowgate.pars) {
+        par.target = par.actual;
+        *factor = chance.pick(&[9999, -9999, 10_000, -10_000]);
+    }
+    steer(chance, &mut interval, |_| 0);
+    interval
+}
+
+/// The list once in so many times, else the sheet.
+fn list_or_sheet<'a>(chance: &mut Chance, list: usize, input: &'a mut Input) -> &'a mut Vec<u8> {
+    if chance.one_in(list) {
+        &mut input.list
+    } else {
+        &mut input.sheet
+    }
+}
+
 fn flipped(chance: &mut Chance) -> Input {
     let interval = sound(chance);
     let mut input = with_list(chance, "bytes flipped", &interval);
     for _ in 0..1 + chance.below(3) {
-        let bytes = if chance.one_in(5) {
-            &mut input.list
-        } else {
-            &mut input.sheet
-        };
+        let bytes = list_or_sheet(chance, 5, &mut input);
         let at = chance.below(bytes.len());
         bytes[at] = match chance.below(3) {
-            0 => chance.next() as u8,
+            0 => chance.draw() as u8,
             1 => bytes[at] ^ (1 << chance.below(8)),
             _ => chance.pick(&[0, 1, 2, 255]),
         };
@@ -283,11 +298,7 @@ fn rearranged(chance: &mut Chance) -> Input {
 fn truncated(chance: &mut Chance) -> Input {
     let interval = sound(chance);
     let mut input = with_list(chance, "cut short", &interval);
-    let bytes = if chance.one_in(4) {
-        &mut input.list
-    } else {
-        &mut input.sheet
-    };
+    let bytes = list_or_sheet(chance, 4, &mut input);
     bytes.truncate(chance.below(bytes.len()));
     input
 }
@@ -295,11 +306,7 @@ fn truncated(chance: &mut Chance) -> Input {
 fn trailing(chance: &mut Chance) -> Input {
     let interval = sound(chance);
     let mut input = with_list(chance, "bytes behind the end", &interval);
-    let bytes = if chance.one_in(3) {
-        &mut input.list
-    } else {
-        &mut input.sheet
-    };
+    let bytes = list_or_sheet(chance, 3, &mut input);
     let first = chance.pick(&[0, 1, 2, 5, 6, 7, 16, 255]);
     bytes.push(first);
     for _ in 0..chance.below(40) {

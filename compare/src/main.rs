@@ -6,7 +6,8 @@ use std::time::Instant;
 
 use compare::cases::{self, every_buffer, every_truncation};
 use compare::chance::Chance;
-use compare::check::{check, room, Mismatch};
+use compare::check::{check, room, Mismatch, Trouble};
+use compare::faults::{planted, REFUSALS};
 use compare::inputs::{self, Input};
 use compare::program::{long_files, Program};
 use compare::side::Side;
@@ -33,8 +34,6 @@ struct Options {
     program: Option<PathBuf>,
     plant: Option<String>,
 }
-
-type Trouble = (Input, Mismatch);
 
 fn options(mut words: impl Iterator<Item = String>) -> Option<Options> {
     let mut options = Options {
@@ -75,17 +74,25 @@ fn tested(options: &Options) -> Option<Tested> {
     options.plant.is_none().then(Tested::default)
 }
 
-/// The sweeps that every run makes.
-fn sweeps(tested: &dyn Side, seed: u64, tally: &mut Tally) -> Result<(), Trouble> {
+/// The sweeps that every run makes: beginnings of sheets, buffer lengths, and each
+/// refusal by itself and with each other one.
+fn sweeps(tested: &dyn Side, seed: u64, tally: &mut Tally) -> Result<(), Box<Trouble>> {
     let sheet_s = Input::of("sheet S", draft::sheet_s().concat(), draft::list_s());
     every_truncation(&sheet_s, tested, tally)?;
     every_buffer(&sheet_s, tested, tally)?;
     let longest = inputs::longest(&mut Chance::of(seed, u64::MAX));
     every_truncation(&longest, tested, tally)?;
-    every_buffer(&longest, tested, tally)
+    every_buffer(&longest, tested, tally)?;
+    for row in 1..=REFUSALS {
+        for other in row..=REFUSALS {
+            let input = planted(&mut Chance::of(seed, u64::MAX - 1), &[row, other]);
+            check(tested, &input, tally).map_err(|mismatch| Trouble::boxed(&input, mismatch))?;
+        }
+    }
+    Ok(())
 }
 
-fn seeded(tested: &dyn Side, options: &Options, tally: &mut Tally) -> Result<(), Trouble> {
+fn seeded(tested: &dyn Side, options: &Options, tally: &mut Tally) -> Result<(), Box<Trouble>> {
     let numbers = match options.only {
         Some(only) => only..only + 1,
         None => 0..options.count,
@@ -94,20 +101,20 @@ fn seeded(tested: &dyn Side, options: &Options, tally: &mut Tally) -> Result<(),
         let mut input = inputs::input(options.seed, k);
         if let Err(mismatch) = check(tested, &input, tally) {
             input.origin = format!("seed {} input {k}: {}", options.seed, input.origin);
-            return Err((input, mismatch));
+            return Err(Trouble::boxed(&input, mismatch));
         }
     }
     Ok(())
 }
 
-fn run_program(options: &Options, cases: &[cases::Case]) -> Result<(), Trouble> {
+fn run_program(options: &Options, cases: &[cases::Case]) -> Result<(), Box<Trouble>> {
     let Some(path) = &options.program else {
         return Ok(());
     };
-    let nothing = || Input::of("program", Vec::new(), Vec::new());
+    let nothing = Input::of("program", Vec::new(), Vec::new());
     let program = Program::at(path).map_err(|error| {
         let what = format!("{} can't be run", path.display());
-        (nothing(), Mismatch::of(&what, "", error))
+        Trouble::boxed(&nothing, Mismatch::of(&what, "", error))
     })?;
     program.check_absent_files()?;
     let seeded = (0..PROGRAM_INPUTS).map(|k| inputs::input(options.seed, k));
@@ -116,14 +123,14 @@ fn run_program(options: &Options, cases: &[cases::Case]) -> Result<(), Trouble> 
     for input in from_cases.chain(seeded).chain(long_files()) {
         program
             .check(&input)
-            .map_err(|mismatch| (input, mismatch))?;
+            .map_err(|mismatch| Trouble::boxed(&input, mismatch))?;
         runs += 1;
     }
     println!("program run {runs} times");
     Ok(())
 }
 
-fn compare(options: &Options, tested: &dyn Side) -> Result<Tally, Trouble> {
+fn compare(options: &Options, tested: &dyn Side) -> Result<Tally, Box<Trouble>> {
     let mut tally = Tally::default();
     if options.only.is_some() {
         seeded(tested, options, &mut tally)?;
@@ -131,7 +138,7 @@ fn compare(options: &Options, tested: &dyn Side) -> Result<Tally, Trouble> {
     }
     let cases = cases::load(&options.cases).map_err(|fault| {
         let input = Input::of("case files", Vec::new(), Vec::new());
-        (input, Mismatch::of("case files", "", fault))
+        Trouble::boxed(&input, Mismatch::of("case files", "", fault))
     })?;
     for case in &cases {
         cases::run(case, tested, &mut tally)?;
@@ -169,11 +176,11 @@ fn main() -> ExitCode {
     println!("{:.1} s", began.elapsed().as_secs_f64());
     match outcome {
         Ok(tally) => report(&options, &tally),
-        Err((input, mismatch)) => {
+        Err(trouble) => {
+            let Trouble { input, mismatch } = *trouble;
             println!("MISMATCH: {}", mismatch.what);
             println!("{}", text::case(&input, room(&input)));
-            println!("second: {}", mismatch.second);
-            println!("tested: {}", mismatch.tested);
+            println!("{}", mismatch.answers.join("\n"));
             ExitCode::FAILURE
         }
     }

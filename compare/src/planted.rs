@@ -117,6 +117,9 @@ impl Side for Planted {
 
     fn settle_into(&self, sheet: &[u8], list: &[u8], out: &mut [u8]) -> Statement {
         let sound = Second.settle_into(sheet, list, out);
+        if self.fault == Fault::None {
+            return sound;
+        }
         let length = listing(&sound).len();
         match (self.fault, sound.refusal) {
             (Fault::DirtyTail, 0) if out.len() > length => out[length] = 0,

@@ -7,7 +7,7 @@ use std::process::Command;
 
 use second::{draft, printed, settle};
 
-use crate::check::Mismatch;
+use crate::check::{Mismatch, Trouble};
 use crate::inputs::Input;
 
 /// A file of the working folder.
@@ -42,7 +42,7 @@ impl Program {
     }
 
     /// Files that are missing or can't be read count as empty.
-    pub fn check_absent_files(&self) -> Result<(), (Input, Mismatch)> {
+    pub fn check_absent_files(&self) -> Result<(), Box<Trouble>> {
         let input = Input::of(
             "files missing or unreadable",
             draft::sheet_s().concat(),
@@ -51,7 +51,7 @@ impl Program {
         for sheet in [Supply::Written, Supply::Missing, Supply::Unreadable] {
             for list in [Supply::Written, Supply::Missing, Supply::Unreadable] {
                 self.check_supplied(&input, [sheet, list])
-                    .map_err(|mismatch| (input.clone(), mismatch))?;
+                    .map_err(|mismatch| Trouble::boxed(&input, mismatch))?;
             }
         }
         Ok(())

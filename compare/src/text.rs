@@ -2,6 +2,8 @@
 
 use std::fmt::Write;
 
+use second::Statement;
+
 use crate::inputs::Input;
 
 fn be(bytes: &[u8]) -> u32 {
@@ -129,6 +131,29 @@ pub fn sheet(bytes: &[u8]) -> String {
 
 pub fn entitlements(bytes: &[u8]) -> String {
     show(bytes, false)
+}
+
+/// All figures of a statement, as a listing would name them.
+pub fn statement(s: &Statement) -> String {
+    format!(
+        "refusal {} name {} gtl {} {} {} parallel {} shadow {} common {} noncommon {} market {} \
+         entitlement {} price {} amount {} NYISO {} PJM {}",
+        s.refusal,
+        hex(&s.name),
+        s.gtl,
+        s.first_remainder,
+        s.second_remainder,
+        s.parallel,
+        s.shadow,
+        s.common,
+        s.noncommon,
+        s.market,
+        s.entitlement,
+        s.price,
+        s.amount,
+        s.nyiso,
+        s.pjm
+    )
 }
 
 /// An input as a case file that expects nothing yet.
