@@ -4,7 +4,7 @@ use std::io::{self, Write};
 
 use crate::balance::balance;
 use crate::entitlement::entitlement;
-use crate::flow::{market_flow, Flow};
+use crate::flow::market_flow;
 use crate::names::{bearing, Name};
 use crate::payment::{payment, WATTS_PER_POWER};
 use crate::sheet::read;
@@ -93,15 +93,13 @@ fn accepted(sheet: &[u8], list: &[u8]) -> Result<Statement, u8> {
     let balance = balance(&sheet)?;
     let flow = market_flow(&sheet, &balance)?;
     let payment = payment(&sheet.head, flow.market - entitlement);
-    let Flow {
-        generation_to_load, ..
-    } = flow;
+    let gtl = flow.generation_to_load;
     Ok(Statement {
         refusal: 0,
         name: *sheet.head.name,
-        gtl: generation_to_load.flow,
-        first_remainder: generation_to_load.first_remainder,
-        second_remainder: generation_to_load.second_remainder,
+        gtl: gtl.flow,
+        first_remainder: gtl.first_remainder,
+        second_remainder: gtl.second_remainder,
         parallel: flow.parallel,
         shadow: flow.shadow,
         common: flow.common_redirect,
