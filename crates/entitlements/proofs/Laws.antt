@@ -9,25 +9,15 @@ use native.Mathlib.Omega.{arith}
 use lib.Dec.{eqb, ltb, leb}
 use lib.IntN.{ℤ, pos, negsuc, natAbs}
 use lib.ListN.{length, take, drop, getD, length-drop, drop-of-length-le}
-use lib.Seq.{drop-cons, drop-drop, take-length}
+use lib.Seq.{drop-cons, drop-drop, take-length, take-all, length-take-le}
 use lib.Signed.{ltZ}
 use borrow.Author.Tests.{ltb-true, ltb-false, leb-false, eqb-true, lt-ltb, le-ltb, eq-eqb, ne-eqb, not-false}
 use Rattle.names.specs.Names.{nameOk, sameList, nameAt, among, ifB}
+use Rattle.names.proofs.Laws.{same-uneven}
 use Rattle.entitlements.specs.Entitlements.{Entry, entryKind, bodyLength, recordLength, mostRecords, entryOf, cutShort, otherKind, badName, outOfRange, repeated, surplus, recordFault, anyFault, row14, entriesFrom, entriesOf, lookUp}
-use Rattle.entitlements.specs.Steps.{firstEntries, Whole}
+use Rattle.entitlements.specs.Steps.{firstEntries}
 use Rattle.entitlements.specs.declared.Entitlement.{Entitlement}
 use Rattle.entitlements.specs.declared.Entitlement.the-variants.{Found, Refused}
-
--- the two tests of the range
-pub below-range : (v : ℤ) → ltZ v (negsuc 99999) ≡ true → outOfRange v ≡ true
-unfolding outOfRange
-below-range (pos n) e = absurd (let z : _≡_ {A = ℕ} 0 1 = cc in omega arith)
-below-range (negsuc n) e = let h : 99999 < n = ltb-true 99999 n e in lt-ltb 100000 (suc n) (omega arith)
-
-pub above-range : (v : ℤ) → ltZ v (negsuc 99999) ≡ false → ltZ (pos 100000) v ≡ outOfRange v
-unfolding outOfRange
-above-range (pos n) e = refl
-above-range (negsuc n) e = let h : n ≤ 99999 = ltb-false 99999 n e in sym (le-ltb 100000 (suc n) (omega arith))
 
 -- a name among the first n records
 if-or : (a b : Bool) → ifB a true b ≡ (b || a)
@@ -82,28 +72,15 @@ passes es k r e =
       room = leb-false _ _ (a .1);
     }
 
--- one condition is enough, and without the others a surplus decides
+-- a record cut short, and one that is not: its name and value stand together
 module _ (es : List Entry) (k : ℕ) (r : List ℕ) where
-  pub cut-fault : length r < bodyLength → recordFault es k r ≡ true
+  pub fault-cut : length r < bodyLength → recordFault es k r ≡ true
   unfolding recordFault cutShort
-  cut-fault h = rw (lt-ltb _ _ h)
+  fault-cut h = rw (lt-ltb _ _ h)
 
-  pub kind-fault : (k ≡ entryKind → ⊥) → recordFault es k r ≡ true
-  unfolding recordFault otherKind
-  kind-fault h = rw (ne-eqb k entryKind h, or-true (cutShort r))
-
-  pub entry-fault : (badName (entryOf r .name) || outOfRange (entryOf r .value)) ≡ true → recordFault es k r ≡ true
-  unfolding recordFault
-  entry-fault h = rw (or-assoc (cutShort r || otherKind k), h, or-true)
-
-  pub twice-fault : repeated es (entryOf r .name) ≡ true → recordFault es k r ≡ true
-  unfolding recordFault
-  twice-fault h = rw (h, or-true)
-
-  pub fault-else : bodyLength ≤ length r → k ≡ entryKind → (badName (entryOf r .name) || outOfRange (entryOf r .value)) ≡ false →
-      repeated es (entryOf r .name) ≡ false → recordFault es k r ≡ surplus es
-  unfolding recordFault cutShort otherKind
-  fault-else w q e f = rw (le-ltb (length r) bodyLength w, eq-eqb k entryKind q, e, f)
+  pub fault-whole : bodyLength ≤ length r → recordFault es k r ≡ (otherKind k || (badName (entryOf r .name) || outOfRange (entryOf r .value)) || repeated es (entryOf r .name) || surplus es)
+  unfolding recordFault cutShort
+  fault-whole h = rw (le-ltb (length r) bodyLength h, or-assoc (otherKind k))
 
 -- a record at a time
 fault-skip : (es : List Entry) (n : ℕ) (l : List ℕ) → anyFault es n l ≡ anyFault es 0 (drop n l)
@@ -141,6 +118,10 @@ module _ (s : List ℕ) (at : ℕ) (h : at < length s) (es : List Entry) where
 pub fault-end : (es : List Entry) (s : List ℕ) (at : ℕ) → length s ≤ at → anyFault es 0 (drop at s) ≡ false
 unfolding anyFault
 fault-end es s at h = rw (drop-of-length-le s {i = at} h)
+
+-- no record of l is cut short
+pub record Whole (l : List ℕ) : Type 0 where
+  pub whole : length l ≡ recordLength * length (entriesOf l)
 
 -- a list that passes is whole records
 whole-from : (es : List Entry) (skip : ℕ) (l : List ℕ) → skip ≤ length l → anyFault es skip l ≡ false → length l ≡ skip + recordLength * length (entriesFrom skip l)
@@ -187,3 +168,20 @@ module _ (s : List ℕ) (at : ℕ) (h : at < length s) where
 pub look-end : (s : List ℕ) (at : ℕ) (name : List ℕ) → length s ≤ at → lookUp (entriesOf (drop at s)) name ≡ Refused 15
 unfolding lookUp entriesFrom
 look-end s at name h = rw (drop-of-length-le s {i = at} h)
+
+-- names have 16 bytes
+pub whole-name : (name : List ℕ) → length name ≡ 16 → nameAt name 0 ≡ name
+whole-name name e = take-all 16 name (omega arith)
+
+look-uneven : (es : List Entry) (skip : ℕ) (l name : List ℕ) → anyFault es skip l ≡ false → (length name ≡ 16 → ⊥) → lookUp (entriesFrom skip l) name ≡ Refused 15
+unfolding anyFault entriesFrom lookUp entryOf
+look-uneven es skip [] name h u = refl
+look-uneven es (suc skip) (b ∷ r) name h u = look-uneven es skip r name h u
+look-uneven es zero (k ∷ r) name h u =
+    let a = or-none (recordFault es k r) _ h in
+    let w = passes es k r (a .0) .whole in
+    let n : length (nameAt r 0) ≡ 16 = length-take-le 16 r (omega arith) in
+    rw (same-uneven (nameAt r 0) name (λ q. u (sym q ∙ n))) (look-uneven (entryOf r ∷ es) bodyLength r name (a .1) u)
+
+pub look-other-length : (s name : List ℕ) → row14 s ≡ false → (length name ≡ 16 → ⊥) → lookUp (entriesOf s) name ≡ Refused 15
+look-other-length s = look-uneven [] 0 s

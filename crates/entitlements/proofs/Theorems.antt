@@ -7,33 +7,15 @@ use mathlib.Core.Logic.{_↔_, ⊎-elim}
 use native.Mathlib.Omega.{arith}
 use lib.IntN.{ℤ, pos, natAbs}
 use lib.ListN.{length, take, getD}
-use Rattle.names.specs.Names.{nameOk, sameList, ifB}
+use Rattle.names.specs.Names.{nameOk, sameList}
+use Rattle.names.proofs.Laws.{same-refl, same-true}
 use Rattle.entitlements.specs.Entitlements.{Entry, bodyLength, recordLength, mostRecords, entryOf, repeated, surplus, recordFault, anyFault, row14, entriesFrom, entriesOf, lookUp, entitlement}
 use Rattle.entitlements.specs.declared.Entitlement.{Entitlement}
 use Rattle.entitlements.specs.declared.Entitlement.the-variants.{Found, Refused}
 use Rattle.entitlements.proofs.Laws.{or-none, Passes, passes}
-use lib.Dec.{eqb, leb}
+use lib.Dec.{leb}
 use lib.Seq.{take-all, length-take-le}
-use borrow.Author.Tests.{eq-eqb, eqb-true, leb-true, leb-false}
-
-no-way : false ≡ true → ⊥
-no-way e = let z : _≡_ {A = ℕ} 0 1 = cc in omega arith
-
-same-refl : (x : List ℕ) → sameList x x ≡ true
-unfolding sameList
-same-refl [] = refl
-same-refl (a ∷ x) = rw (eq-eqb a a refl) (same-refl x)
-
-same-true : (x y : List ℕ) → sameList x y ≡ true → x ≡ y
-unfolding sameList
-same-true [] [] e = refl
-same-true [] (b ∷ y) e = absurd (no-way e)
-same-true (a ∷ x) [] e = absurd (no-way e)
-same-true (a ∷ x) (b ∷ y) e = go (eqb a b) refl e (same-true x y)
-  where
-    go : (w : Bool) → eqb a b ≡ w → ifB w (sameList x y) false ≡ true → (sameList x y ≡ true → x ≡ y) → a ∷ x ≡ b ∷ y
-    go true p q f = rw (eqb-true a b p, f q)
-    go false p q f = absurd (no-way q)
+use borrow.Author.Tests.{leb-true, leb-false}
 
 -- e is one of the entries es
 abbrev pub Holds : List Entry → Entry → Type 0
@@ -128,11 +110,9 @@ look-not-14 (a ∷ es) name e =
 
 module _ (s name : List ℕ) where
   passed-is : row14 s ≡ false → entitlement s name ≡ lookUp (entriesOf s) name
-  unfolding entitlement
   passed-is e = rw e
 
   refused-is : row14 s ≡ true → entitlement s name ≡ Refused 14
-  unfolding entitlement
   refused-is e = rw e
 
   -- 14 exactly when a record meets it
