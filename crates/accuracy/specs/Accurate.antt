@@ -1,0 +1,38 @@
+-- The accuracy rule: which flows are exact, and how far each figure is from the exact one at most. Assumes nothing.
+use Prim.Native.Nat.{ℕ, _+_, _≤_, max}
+use mathlib.Core.Path.{_≡_}
+use mathlib.Core.Logic.{_↔_}
+use lib.IntN.{ℤ, pos, _*ℤ_}
+use lib.ListN.{length}
+use lib.Signed.{_<ℤ_}
+use Rattle.records.specs.declared.Head.{Head}
+use Rattle.records.specs.Content.{Content, head}
+use Rattle.figures.specs.Balance.{netLoad, finalGeneration}
+use Rattle.figures.specs.Flow.{generationToLoad, firstRemainder, secondRemainder, marketFlow}
+use Rattle.figures.specs.Payment.{amount}
+use Rattle.accuracy.specs.Fraction.{Fraction, entire, _⊕_, _⊘_, half, Equals, Near}
+use Rattle.accuracy.specs.Exact.{exactGenerationToLoad, exactMarketFlow, exactDifference, exactAmount}
+
+-- Bounds, in watts: 1 for a generation-to-load flow, p + 2 for the market flow, with p the sheet's PARs of both classes
+unfoldable pub flowBound : ℤ
+flowBound = pos 1
+
+unfoldable pub marketBound : Content → ℤ
+marketBound c = pos (length (c .pars) + 2)
+
+-- the larger of the head's two prices, whichever was taken
+unfoldable pub dearerPrice : Head → ℤ
+dearerPrice h = pos (max (h .«monitoring_price») (h .«nonmonitoring_price»))
+
+-- the amount of a flow that is k watts off at most: k × dearer price × seconds / 3,600,000 + 1/2
+unfoldable pub amountBound : Head → ℤ → Fraction
+amountBound h k = entire (k *ℤ dearerPrice h *ℤ pos (h .seconds)) ⊘ pos 3600000 ⊕ half
+
+-- targets are the flowgate and each PAR
+pub record Accurate (c : Content) (entitlement : ℤ) : Type 0 where
+  pub flow-exact : (target : ℕ) → target ≤ length (c .pars) →
+      Equals (generationToLoad c target) (exactGenerationToLoad c target) ↔ netLoad c *ℤ secondRemainder c target ≡ finalGeneration c *ℤ firstRemainder c target
+  pub flow-near : (target : ℕ) → target ≤ length (c .pars) → Near (generationToLoad c target) (exactGenerationToLoad c target) (entire flowBound)
+  pub market-near : Near (marketFlow c) (exactMarketFlow c) (entire (marketBound c))
+  pub difference-above : pos 0 <ℤ exactDifference c entitlement .denominator
+  pub amount-near : Near (amount c entitlement) (exactAmount c entitlement) (amountBound (head c) (marketBound c))
