@@ -1,5 +1,5 @@
-use Rattle.entitlements.proofs.Laws.{passes, first-next, fault-refused, fault-next, fault-end}
-use Rattle.entitlements.proofs.Laws.{passes, fault-at, fault-end}
+use Rattle.entitlements.proofs.Records.{passes}
+use Rattle.entitlements.proofs.Walk.{first-next, fault-here, fault-on, fault-end}
 use Rattle.entitlements.specs.Steps.{firstEntries}
 use Rattle.entitlements.specs.Entitlements.{anyFault, row14, recordLength}
 use lib.ListN.{length, drop, length-drop}
@@ -34,7 +34,7 @@ returns : tie.Need-returns Inv-loop μ-loop
 returns c =
     let p = c .before .before .before in
     let s = now (p .before .before .args .list) in
-    sym (fault-refused s (p .loop .at) (c .before .before .loop-test .taken) _ (sym (c .before .record-fault .ensures) ∙ c .if1 .taken)) ∙ p .loop .inv .2
+    sym (fault-here s (p .loop .at) (c .before .before .loop-test .taken) _ (sym (c .before .record-fault .ensures) ∙ c .if1 .taken)) ∙ p .loop .inv .2
 
 -- src/lib.rt:74:9
 add-at : tie.Need-add-at Inv-loop μ-loop
@@ -56,7 +56,7 @@ loop-again c =
     let h = c .before .before .loop-test .taken in
     let q = sym (c .before .record-fault .ensures) ∙ c .if1 .left in
     let w = passes _ _ _ q .whole in
-    (omega arith, omega (arith, length-drop (l .at + 1) s), rw (first-next s (l .at) (l .n) (l .inv .0)) (sym (fault-next s (l .at) h _ q) ∙ l .inv .2))
+    (omega arith, omega (arith, length-drop (l .at + 1) s), rw (first-next s (l .at) (l .n) (l .inv .0)) (sym (fault-on s (l .at) h _ q) ∙ l .inv .2))
 
 -- src/lib.rt:65:1
 returns-2 : tie.Need-returns-2 Inv-loop μ-loop

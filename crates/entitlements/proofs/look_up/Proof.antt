@@ -1,5 +1,4 @@
-use Rattle.entitlements.proofs.Laws.{Whole, passed-whole, whole-next, whole-name, look-other-length, look-here, look-on, look-end, tail-part}
-use Rattle.entitlements.proofs.Laws.{Whole, passed-whole, whole-next, look-here, look-on, look-end, tail-part}
+use Rattle.entitlements.proofs.Walk.{Whole, passed-whole, whole-next, whole-name, look-other-length, look-here, look-on, look-end, tail-part}
 use Rattle.entitlements.specs.declared.Entitlement.the-variants.{Found}
 use Rattle.entitlements.specs.Entitlements.{entriesOf, lookUp, recordLength}
 use Rattle.names.specs.Names.{sameList}

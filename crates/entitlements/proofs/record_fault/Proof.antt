@@ -1,4 +1,5 @@
-use Rattle.entitlements.proofs.Laws.{fault-cut, fault-whole, seen-repeated, tail-part, first-count}
+use Rattle.entitlements.proofs.Records.{fault-cut, fault-whole, seen-repeated}
+use Rattle.entitlements.proofs.Walk.{first-count, tail-part}
 use Rattle.entitlements.specs.Entitlements.{entryOf, otherKind, surplus}
 use lib.ListN.{length, drop, length-drop}
 use denote.Ref.{now}
