@@ -65,7 +65,7 @@ module _ (es : List Entry) (k : ℕ) (r : List ℕ) where
   pub fault-whole : bodyLength ≤ length r →
       recordFault es k r ≡ (otherKind k || (badName (entryOf r .name) || outOfRange (entryOf r .value)) || repeated es (entryOf r .name) || surplus es)
   unfolding recordFault cutShort
-  fault-whole h = rw (le-ltb (length r) bodyLength h, or-assoc (otherKind k))
+  fault-whole h = rw (le-ltb (length r) bodyLength h, or-assoc (otherKind k) (badName (entryOf r .name)) (outOfRange (entryOf r .value)))
 
 -- a name among those of the first n records: the code goes forwards, the definition back from the latest
 if-or : (a b : Bool) → ifB a true b ≡ (b || a)

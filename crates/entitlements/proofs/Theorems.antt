@@ -106,9 +106,11 @@ look-kept name v (one {fs = fs} {e = e} k p) m =
 
 module _ (s name : List ℕ) where
   passed-is : row14 s ≡ false → entitlement s name ≡ lookUp (entriesOf s) name
+  unfolding entitlement
   passed-is e = rw e
 
   faulty-is : row14 s ≡ true → entitlement s name ≡ Refused 14
+  unfolding entitlement
   faulty-is e = rw e
 
   -- 14 exactly when a record meets it

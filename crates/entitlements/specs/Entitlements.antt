@@ -87,5 +87,5 @@ lookUp [] name = Refused 15
 lookUp (e ∷ es) name = cond (sameList (e .name) name) (Found (e .value)) (lookUp es name)
 
 -- what the list s says of the flowgate of that name
-abbrev pub entitlement : List ℕ → List ℕ → Entitlement
+unfoldable pub entitlement : List ℕ → List ℕ → Entitlement
 entitlement s name = cond (row14 s) (Refused 14) (lookUp (entriesOf s) name)

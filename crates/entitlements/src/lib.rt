@@ -1,28 +1,29 @@
 // The entitlement list (document 01, 'The interval sheet'), rows 14 and 15.
 ghost use mathlib.Core.Path.{_≡_};
-ghost use mathlib.Core.Bool.{Bool, true, false, _||_};
+ghost use mathlib.Core.Bool.{false, _||_};
 ghost use Prim.Native.Nat.{_+_, _*_, _≤_, _<_};
 ghost use lib.ListN.{length, drop, getD};
-ghost use Rattle.entitlements.specs.Entitlements.{Entry, bodyLength, recordLength, entryOf, badName, outOfRange, recordFault, row14, entriesOf, lookUp, entitlement};
+ghost use Rattle.entitlements.specs.Entitlements.{bodyLength, recordLength, entryOf, badName, outOfRange, recordFault, row14, entriesOf, lookUp, entitlement};
 ghost use Rattle.entitlements.specs.Steps.{firstEntries};
 
-// What the list says of a flowgate: its entitlement in tenths of a MW, or the refusal's number.
+// What the list says of a flowgate: the Non-Monitoring RTO's entitlement in tenths of a MW, or the refusal's number.
 pub enum Entitlement {
     Found(i64),
     Refused(u8),
 }
 
+// A record is one byte of kind and a body: name 16, entitlement 4.
 const KIND: u8 = 0x10;
 
 const BODY: usize = 20;
 
 const RECORD: usize = BODY + 1;
 
-const MOST: usize = 2500;
-// Within ± this, in tenths of a MW.
+const MOST_RECORDS: usize = 2500;
+
 const MOST_VALUE: u64 = 100_000;
 
-// The entitlement in a record's body.
+// The entitlement that a body holds.
 fn value_of(body: &[u8]) -> i64
     requires { ⌜ bodyLength ≤ length (now body) ⌝ }
     ensures { λ r. ⌜ r ≡ entryOf (now (body .entry)) .value ⌝ }
@@ -49,7 +50,7 @@ fn record_fault(list: &[u8], at: usize, n: usize) -> bool
         return true;
     }
     let twice = names::seen(list, from, 1, RECORD, n);
-    (list[at] != KIND) | entry_fault(&list[from..]) | twice | (MOST <= n)
+    (list[at] != KIND) | entry_fault(&list[from..]) | twice | (MOST_RECORDS <= n)
 }
 
 // Whether a record of the list meets row 14.

@@ -1,22 +1,18 @@
-use Rattle.entitlements.proofs.Walk.{Whole, passed-whole, whole-next, whole-name, look-other-length, look-here, look-on, look-end, tail-part}
-use Rattle.entitlements.specs.declared.Entitlement.the-variants.{Found}
-use Rattle.entitlements.specs.Entitlements.{entriesOf, lookUp, recordLength}
-use Rattle.names.specs.Names.{sameList}
-use lib.ListN.{length, drop, length-drop}
-use mir.Facts.{toZ-ofZ}
-use mir.Val.{SFits}
-use mir.Syntax.{w64}
-use denote.Ref.{now}
-use native.Mathlib.Omega.{arith}
+-- `look_up` meets its contract. The loop's invariant: what is left of the list is whole records, and answers as the whole list does. Assumes nothing.
+use Prim.Native.Nat.{_+_, _-_, _≤_}
 use mathlib.Core.Path.{_≡_, refl, sym, ap, _∙_}
-use Prim.Native.Nat.{_+_, _*_, _-_, _≤_, _<_}
+use native.Mathlib.Omega.{arith}
+use denote.Ref.{now}
+use mir.Facts.{toZ-ofZ}
+use mir.Syntax.{w64}
+use mir.Val.{SFits}
 use borrow.Author.Needs.{needs}
+use lib.ListN.{length, drop, length-drop}
+use Rattle.entitlements.specs.Entitlements.{entriesOf, lookUp}
+use Rattle.entitlements.specs.declared.Entitlement.the-variants.{Found}
+use Rattle.entitlements.proofs.Walk.{Whole, passed-whole, whole-next, whole-name, look-other-length, look-here, look-on, look-end, tail-part}
 use Rattle.entitlements.proofs.look_up.Statement.{statement}
 use Rattle.entitlements.proofs.look_up.Tie as tie
-use Rattle.entitlements.proofs.look_up.Reads as reads
-use Rattle.entitlements.proofs.look_up.Lts as lts
-use Rattle.entitlements.proofs.value_of.Reads as value-of-reads
-use Rattle.names.proofs.same_at.Reads as same-at-reads
 
 abbrev Inv-loop : tie.InvT-loop
 Inv-loop entries name at₀ at = (at ≤ length entries) × Whole (drop at entries) × (lookUp (entriesOf (drop at entries)) name ≡ lookUp (entriesOf entries) name)
@@ -24,38 +20,30 @@ Inv-loop entries name at₀ at = (at ≤ length entries) × Whole (drop at entri
 abbrev μ-loop : tie.MeasureT-loop
 μ-loop entries name at₀ at = length entries - at
 
--- src/lib.rt:85:9
 returns : tie.Need-returns Inv-loop μ-loop
-returns c = sym (look-other-length _ _ (c .before .before .before .pre) (c .if1 .taken))
+returns c = sym (look-other-length _ _ (c .before .before .before .pre) (λ q. omega (arith, q)))
 
--- src/lib.rt:88:5
 loop-holds : tie.Need-loop-holds Inv-loop μ-loop
 loop-holds c = (omega arith, passed-whole _ (c .before .before .before .pre), refl)
 
--- src/lib.rt:89:20
 add-from : tie.Need-add-from Inv-loop μ-loop
 add-from c = search needs
 
--- src/lib.rt:90:12
 same-at-requires : tie.Need-same-at-requires Inv-loop μ-loop
 same-at-requires c κs =
     let l = c .before .loop in
     let w = whole-next _ (l .at) (c .loop-test .taken) (l .inv .1) .0 in
     omega arith
 
--- src/lib.rt:91:48
 sub-value-of : tie.Need-sub-value-of Inv-loop μ-loop
 sub-value-of c = search needs
 
--- src/lib.rt:91:48
 part-value-of-start : tie.Need-part-value-of-start Inv-loop μ-loop
 part-value-of-start c = search needs
 
--- src/lib.rt:91:48
 part-value-of-end : tie.Need-part-value-of-end Inv-loop μ-loop
 part-value-of-end c = search needs
 
--- src/lib.rt:91:39
 value-of-requires : tie.Need-value-of-requires Inv-loop μ-loop
 value-of-requires c κs =
     let p = c .before .before .before in
@@ -64,7 +52,6 @@ value-of-requires c κs =
     let w = whole-next s (l .at) (p .loop-test .taken) (l .inv .1) .0 in
     rw (tail-part s (l .at + 1), length-drop (l .at + 1) s) (omega arith)
 
--- src/lib.rt:91:13
 returns-2 : tie.Need-returns-2 Inv-loop μ-loop
 returns-2 c =
     let p = c .before .before .before .before in
@@ -76,15 +63,12 @@ returns-2 c =
     let v = rw (tail-part (now (a .entries)) (l .at + 1)) at (c .value-of .ensures) in
     ap Found (toZ-ofZ f ∙ v) ∙ sym (look-here (now (a .entries)) (l .at) (p .loop-test .taken) _ q) ∙ l .inv .2
 
--- src/lib.rt:93:9
 add-at : tie.Need-add-at Inv-loop μ-loop
 add-at c = search needs
 
--- src/lib.rt:88:5
 loop-less : tie.Need-loop-less Inv-loop μ-loop
 loop-less c = search needs
 
--- src/lib.rt:88:5
 loop-again : tie.Need-loop-again Inv-loop μ-loop
 loop-again c =
     let p = c .before .before in
@@ -96,7 +80,6 @@ loop-again c =
     let q = rw n at (sym (c .before .same-at .ensures) ∙ c .if2 .left) in
     (w .0, w .1, sym (look-on (now (a .entries)) (l .at) h _ q) ∙ l .inv .2)
 
--- src/lib.rt:80:1
 returns-3 : tie.Need-returns-3 Inv-loop μ-loop
 returns-3 c =
     let l = c .before .loop in

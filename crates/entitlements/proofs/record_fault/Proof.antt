@@ -1,57 +1,44 @@
+-- `record_fault` meets its contract: the conditions in the order of the definition. Assumes nothing.
+use Prim.Native.Nat.{_+_, _≤_}
+use mathlib.Core.Path.{sym, _∙_}
+use denote.Ref.{now}
+use borrow.Author.Needs.{needs}
+use lib.ListN.{length, drop, length-drop}
+use Rattle.entitlements.specs.Entitlements.{entryOf, otherKind, surplus}
 use Rattle.entitlements.proofs.Records.{fault-cut, fault-whole, seen-repeated}
 use Rattle.entitlements.proofs.Walk.{first-count, tail-part}
-use Rattle.entitlements.specs.Entitlements.{entryOf, otherKind, surplus}
-use lib.ListN.{length, drop, length-drop}
-use denote.Ref.{now}
-use mathlib.Core.Path.{_≡_, sym, _∙_}
-use Prim.Native.Nat.{_+_, _≤_}
-use borrow.Author.Needs.{needs}
 use Rattle.entitlements.proofs.record_fault.Statement.{statement}
 use Rattle.entitlements.proofs.record_fault.Tie as tie
-use Rattle.entitlements.proofs.record_fault.Reads as reads
-use Rattle.entitlements.proofs.record_fault.Lts as lts
-use Rattle.entitlements.proofs.entry_fault.Reads as entry-fault-reads
-use Rattle.names.proofs.seen.Reads as seen-reads
 
--- src/lib.rt:47:16
 add-from : tie.Need-add-from
 add-from c = search needs
 
--- src/lib.rt:48:8
 sub-if1 : tie.Need-sub-if1
 sub-if1 c = search needs
 
--- src/lib.rt:49:9
 returns : tie.Need-returns
 returns c =
     let a = c .before .before .args in
     sym (fault-cut _ _ _ (rw (length-drop (a .at + 1) (now (a .list))) (c .if1 .taken)))
 
--- src/lib.rt:51:9
 seen-requires : tie.Need-seen-requires
 seen-requires c κs = search needs
 
--- src/lib.rt:52:6
 shared-slice-read-result : tie.Need-shared-slice-read-result
 shared-slice-read-result c = search needs
 
--- src/lib.rt:52:38
 sub-entry-fault : tie.Need-sub-entry-fault
 sub-entry-fault c = search needs
 
--- src/lib.rt:52:38
 part-entry-fault-start : tie.Need-part-entry-fault-start
 part-entry-fault-start c = search needs
 
--- src/lib.rt:52:38
 part-entry-fault-end : tie.Need-part-entry-fault-end
 part-entry-fault-end c = search needs
 
--- src/lib.rt:52:26
 entry-fault-requires : tie.Need-entry-fault-requires
 entry-fault-requires c κs = search needs
 
--- src/lib.rt:43:1
 returns-2 : tie.Need-returns-2
 unfolding entryOf otherKind surplus
 returns-2 c =
@@ -60,8 +47,7 @@ returns-2 c =
     let s = now (a .list) in
     let w : 20 ≤ length (drop (a .at + 1) s) = rw (length-drop (a .at + 1) s) (p .if1 .left) in
     let e = rw (tail-part s (a .at + 1)) at (c .entry-fault .ensures) in
-    let q = c .before .before .before .seen .ensures ∙ seen-repeated s _ (a .n) in
-    rw (fault-whole _ _ _ w, e, q, first-count s (a .n))
+    rw (fault-whole _ _ _ w, e, c .before .before .before .seen .ensures, seen-repeated, first-count)
 
 pub record-fault-spec : {M : Type 1} → statement M
 record-fault-spec =
