@@ -27,6 +27,11 @@ pub record Passes (es : List Entry) (k : ℕ) (r : List ℕ) : Type 0 where
   pub kind : k ≡ entryKind
   pub kept : Kept es (entryOf r)
 
+-- tests
+pub either : {P : Type 0} (t : Bool) → (t ≡ true → P) → (t ≡ false → P) → P
+either true p q = p refl
+either false p q = q refl
+
 pub or-none : (a b : Bool) → (a || b) ≡ false → (a ≡ false) × (b ≡ false)
 or-none true b e = absurd (let z : _≡_ {A = ℕ} 0 1 = cc in omega arith)
 or-none false b e = (refl, e)

@@ -1,7 +1,7 @@
 -- The list a record at a time: what the loops over its bytes go by. Assumes nothing.
 use Prim.Native.Nat.{ℕ, zero, suc, _+_, _*_, _-_, _≤_, _<_}
 use mathlib.Core.Path.{_≡_, refl, sym, ap, _∙_}
-use mathlib.Core.Bool.{Bool, true, false, _||_}
+use mathlib.Core.Bool.{true, false, _||_}
 use mathlib.Core.List.{List, [], _∷_}
 use native.Mathlib.Nat.{zero-add}
 use native.Mathlib.Numerals.{add-one}
@@ -12,7 +12,6 @@ use Rattle.names.specs.Names.{nameAt, sameList}
 use Rattle.names.proofs.Laws.{same-uneven}
 use Rattle.entitlements.specs.Entitlements.{Entry, bodyLength, recordLength, entryOf, recordFault, anyFault, row14, entriesFrom, entriesOf, lookUp}
 use Rattle.entitlements.specs.Steps.{firstEntries}
-use Rattle.entitlements.specs.declared.Entitlement.{Entitlement}
 use Rattle.entitlements.specs.declared.Entitlement.the-variants.{Found, Refused}
 use Rattle.entitlements.proofs.Records.{Kept, or-none, passes}
 
