@@ -1,6 +1,6 @@
 -- The entitlement list (document 01, 'The interval sheet'): its entries, rows 14 and 15. Assumes nothing.
 use Prim.Native.Nat.{ℕ, zero, suc, _+_}
-use mathlib.Core.Bool.{Bool, true, false, not, _||_, cond}
+use mathlib.Core.Bool.{Bool, false, not, _||_, cond}
 use mathlib.Core.List.{List, [], _∷_}
 use lib.Dec.{eqb, ltb, leb}
 use lib.IntN.{ℤ, natAbs}
@@ -30,6 +30,9 @@ recordLength = bodyLength + 1
 abbrev pub mostRecords : ℕ
 mostRecords = 2500
 
+abbrev pub mostValue : ℕ
+mostValue = 100000
+
 -- the entry in a body
 unfoldable pub entryOf : List ℕ → Entry
 entryOf b = record { name = nameAt b 0; value = sbe32 b 16 }
@@ -46,7 +49,7 @@ unfoldable pub badName : List ℕ → Bool
 badName name = not (nameOk name)
 
 unfoldable pub outOfRange : ℤ → Bool
-outOfRange value = ltb 100000 (natAbs value)
+outOfRange value = ltb mostValue (natAbs value)
 
 unfoldable pub repeated : List Entry → List ℕ → Bool
 repeated [] name = false

@@ -1,28 +1,20 @@
-use Rattle.entitlements.proofs.Laws.{passed-whole}
-use Rattle.entitlements.specs.Entitlements.{entitlement}
-use mathlib.Core.Path.{_≡_, sym, ap, _∙_}
+-- `find` meets its contract. Assumes nothing.
+use mathlib.Core.Path.{sym, _∙_}
 use borrow.Author.Needs.{needs}
+use Rattle.entitlements.specs.Entitlements.{entitlement}
 use Rattle.entitlements.proofs.find.Statement.{statement}
 use Rattle.entitlements.proofs.find.Tie as tie
-use Rattle.entitlements.proofs.find.Reads as reads
-use Rattle.entitlements.proofs.find.Lts as lts
-use Rattle.entitlements.proofs.faulty.Reads as faulty-reads
-use Rattle.entitlements.proofs.look_up.Reads as look-up-reads
 
--- src/lib.rt:105:8
 faulty-requires : tie.Need-faulty-requires
 faulty-requires c κs = search needs
 
--- src/lib.rt:106:9
 returns : tie.Need-returns
 unfolding entitlement
 returns c = rw (← c .before .faulty .ensures, c .if1 .taken)
 
--- src/lib.rt:108:5
 look-up-requires : tie.Need-look-up-requires
-look-up-requires c κs = passed-whole _ (sym (c .before .faulty .ensures) ∙ c .if1 .left)
+look-up-requires c κs = sym (c .before .faulty .ensures) ∙ c .if1 .left
 
--- src/lib.rt:102:1
 returns-2 : tie.Need-returns-2
 unfolding entitlement
 returns-2 c = rw (← c .before .before .faulty .ensures, c .before .if1 .left) (c .look-up .ensures)
