@@ -1,10 +1,11 @@
 -- The accuracy rule, proved: every content that passes rows 1 to 13 and 16 to 21 is accurate. Assumes nothing.
-use Prim.Native.Nat.{ℕ, zero, suc, _+_, _*_, _≤_, _<_}
+use Prim.Native.Nat.{ℕ, zero, suc, _+_, _<_}
 use native.Mathlib.Omega.{arith}
 use mathlib.Core.Path.{_≡_, refl, ap}
 use mathlib.Core.Bool.{Bool, true, false, cond}
 use mathlib.Core.Logic.{_↔_}
-use lib.Dec.{eqb, T, eqb→eq}
+use borrow.Author.Tests.{eqb-true}
+use lib.Dec.{eqb}
 use lib.IntN.{ℤ, pos, natAbs, _+ℤ_, _-ℤ_, _*ℤ_, *ℤ-comm}
 use lib.ListN.{length}
 use lib.Signed.{_≤ℤ_, _<ℤ_, ≤ℤ-refl}
@@ -15,7 +16,6 @@ use Rattle.integers.proofs.Order.{lt-le, le-mul}
 use Rattle.integers.proofs.Absolute.{abs-pos}
 use Rattle.integers.proofs.Sums.{sum-least}
 use Rattle.integers.proofs.Tactic.{zi, zo}
-use Rattle.quotient.specs.Rounded.{quotient, remainder}
 use Rattle.quotient.proofs.Laws.{whole}
 use Rattle.records.specs.declared.Head.{Head}
 use Rattle.records.specs.Content.{Content, head, par}
@@ -28,7 +28,7 @@ use Rattle.figures.proofs.Factors.{par-factor-within}
 use Rattle.accuracy.specs.Fraction.{Fraction, entire, _⊕_, _⊖_, _⊗_, _⊘_, half, _≼_, Equals, Near}
 use Rattle.accuracy.specs.Exact.{exactGenerationToLoad, exactCarriedTerm, exactRedirect, exactNonCommonRedirect, exactMarketFlow, exactSettlementFlow, exactDifference, exactAmountOf, exactAmount}
 use Rattle.accuracy.specs.Accurate.{flowBound, marketBound, amountBound, Accurate}
-use Rattle.accuracy.proofs.FractionLaws.{near-self, near-plus, near-minus, near-wide, near-times, near-rounded, near-more, near-less, near-sum, entire-above}
+use Rattle.accuracy.proofs.FractionLaws.{near-self, near-minus, near-wide, near-times, near-rounded, near-more, near-less, near-sum, entire-above}
 use Rattle.accuracy.proofs.PaymentLaws.{near-pay}
 
 -- a number that is not negative is its own size
@@ -96,12 +96,8 @@ weight-both : (c : Content) (i : ℕ) → (weight c common i +ℤ weight c nonco
 unfolding weight
 weight-both c i = by (par c i .class) (eqb (par c i .class) common) refl (eqb (par c i .class) noncommon) refl
   where
-    is-true : (b : Bool) → b ≡ true → T b
-    is-true true e = tt
-    is-true false e = absurd (let z : _≡_ {A = ℕ} 0 1 = cc in omega arith)
-
     by : (k : ℕ) (a : Bool) → eqb k common ≡ a → (b : Bool) → eqb k noncommon ≡ b → (cond a (pos 10000) (pos 0) +ℤ cond b (pos 10000) (pos 0)) ≤ℤ pos 10000
-    by k true d true e = absurd (let z : ⊥ = omega (arith, eqb→eq k common (is-true _ d), eqb→eq k noncommon (is-true _ e)) in z)
+    by k true d true e = absurd (omega (arith, eqb-true k common d, eqb-true k noncommon e))
     by k true d false e = record { le = tt }
     by k false d true e = record { le = tt }
     by k false d false e = record { le = tt }

@@ -3,7 +3,7 @@
 use Prim.Native.Nat.{ℕ, zero, suc, _*_, _<_}
 use native.Mathlib.Nat.{one-mul}
 use native.Mathlib.Omega.{arith}
-use mathlib.Core.Path.{_≡_, refl, sym, ap, _∙_}
+use mathlib.Core.Path.{_≡_, ap, _∙_}
 use mathlib.Core.Logic.{_↔_}
 use lib.IntN.{ℤ, pos, negsuc, negℤ, natAbs, _+ℤ_, _-ℤ_, _*ℤ_, *ℤ-comm}
 use lib.Signed.{_≤ℤ_, _<ℤ_}
@@ -14,7 +14,7 @@ use Rattle.integers.proofs.Absolute.{abs-mul}
 use Rattle.integers.proofs.Tactic.{zi, zo, le-mul-abs}
 use Rattle.quotient.specs.Rounded.{quotient, remainder}
 use Rattle.quotient.proofs.Laws.{whole, near}
-use Rattle.figures.proofs.Balanced.{natural-least}
+use Rattle.figures.proofs.Numbers.{natural-least}
 use Rattle.accuracy.specs.Fraction.{Fraction, entire, _⊕_, _⊖_, _⊗_, _⊘_, half, sumOf, _≼_, Near}
 
 -- a product of numbers above zero

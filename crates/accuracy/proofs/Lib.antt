@@ -1,3 +1,4 @@
 pub mod FractionLaws
 pub mod PaymentLaws
 pub mod Accuracy
+pub mod Examples

@@ -1,9 +1,9 @@
 -- A difference times its own price rises with the difference, by at most the dearer price. Assumes nothing.
-use Prim.Native.Nat.{ℕ, zero, suc, _+_, _≤_, max}
+use Prim.Native.Nat.{ℕ, zero, suc}
 use native.Mathlib.Omega.{arith}
-use mathlib.Core.Path.{_≡_, refl, sym, ap, _∙_}
+use mathlib.Core.Path.{_≡_, sym, ap, _∙_}
 use mathlib.Core.Logic.{_⊎_, inl, inr}
-use lib.IntN.{ℤ, pos, negsuc, negℤ, natAbs, _+ℤ_, _-ℤ_, _*ℤ_, +ℤ-idl, zero-*ℤ}
+use lib.IntN.{ℤ, pos, negsuc, negℤ, natAbs, _-ℤ_, _*ℤ_, +ℤ-idl, zero-*ℤ}
 use lib.Signed.{_≤ℤ_, _<ℤ_}
 use Rattle.integers.proofs.Parts.{up, dn, le-of, le-to}
 use Rattle.integers.proofs.Linear.{zarith}
@@ -12,12 +12,12 @@ use Rattle.integers.proofs.Absolute.{abs-pos, abs-neg}
 use Rattle.integers.proofs.Tactic.{zi, zo}
 use Rattle.records.specs.declared.Head.{Head}
 use Rattle.figures.specs.Payment.{price}
-use Rattle.figures.proofs.Balanced.{natural-least, above-suc}
-use Rattle.figures.proofs.Price.{price-above, price-below, price-zero}
+use Rattle.figures.proofs.Numbers.{natural-least, above-suc}
+use Rattle.figures.proofs.Payments.{price-above, price-below}
 use Rattle.accuracy.specs.Fraction.{Fraction, _⊗_, Near}
 use Rattle.accuracy.specs.Exact.{exactPrice}
 use Rattle.accuracy.specs.Accurate.{dearerPrice}
-use Rattle.accuracy.proofs.FractionLaws.{mul-pos, between}
+use Rattle.accuracy.proofs.FractionLaws.{mul-pos}
 
 -- x as its part above zero less its part below
 parts : (x : ℤ) → x ≡ pos (up x) -ℤ pos (dn x)

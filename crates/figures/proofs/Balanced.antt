@@ -1,21 +1,22 @@
 -- What is known of loads and generation where none of refusals 16 to 21 is met. Assumes nothing.
-use Prim.Native.Nat.{ℕ, zero, suc, _+_, _<_}
+use Prim.Native.Nat.{ℕ, zero, suc, _<_}
 use native.Mathlib.Omega.{arith}
 use mathlib.Core.Path.{_≡_, refl, sym}
-use mathlib.Core.Bool.{Bool, true, false, not, cond, _||_}
+use mathlib.Core.Bool.{Bool, true, false, cond, _||_}
+use borrow.Author.Tests.{not-false}
 use lib.Dec.{eqb, lit<, leb·suc-zero}
-use lib.IntN.{ℤ, pos, negsuc, _+ℤ_, _-ℤ_}
+use lib.IntN.{ℤ, pos, negsuc, _-ℤ_}
 use lib.ListN.{length}
 use lib.Signed.{_≤ℤ_, _<ℤ_, leZ, ltZ}
-use Rattle.integers.specs.Sum.{sumTo, allTo}
 use Rattle.integers.proofs.Linear.{zarith}
 use Rattle.integers.proofs.Tactic.{zi, zo}
 use Rattle.integers.proofs.Machine.{lt-false, le-true, le-false}
 use Rattle.integers.proofs.Sums.{sum-least, all-at}
 use Rattle.records.specs.declared.Place.{Place}
 use Rattle.records.specs.declared.Place.the-variants.{Proxy, Line}
-use Rattle.records.specs.Content.{Content, unit, point}
-use Rattle.figures.specs.Balance.{onLine, atProxy, zoneLoad, netLoad, proxyImport, proxyImports, finalLoad, output, zoneGeneration, netGeneration, proxyExport, proxyExports, finalGeneration, grossLoad, grossOutput, grossAboveLimit, atLeastZero, zoneLoadBelowZero, finalLoadNotAboveZero, zoneGenerationBelowZero, isZero, netGenerationZero, finalGenerationBelowZero, balanceRow}
+use Rattle.records.specs.Content.{Content, point}
+use Rattle.figures.specs.Balance.{onLine, atProxy, zoneLoad, netLoad, proxyImport, proxyImports, finalLoad, zoneGeneration, netGeneration, proxyExport, proxyExports, finalGeneration, grossLoad, grossOutput, grossAboveLimit, atLeastZero, zoneLoadBelowZero, finalLoadNotAboveZero, zoneGenerationBelowZero, isZero, netGenerationZero, finalGenerationBelowZero, balanceRow}
+use Rattle.figures.proofs.Numbers.{natural-least, above-suc, less-left}
 
 -- the rows one by one
 pub record NoneMet (c : Content) : Type 0 where
@@ -26,7 +27,7 @@ pub record NoneMet (c : Content) : Type 0 where
   pub row-20 : netGenerationZero c ≡ false
   pub row-21 : finalGenerationBelowZero c ≡ false
 
-not-met : (t : Bool) (n m : ℕ) → 0 < n → cond t n m ≡ 0 → (t ≡ false) × (m ≡ 0)
+pub not-met : (t : Bool) (n m : ℕ) → 0 < n → cond t n m ≡ 0 → (t ≡ false) × (m ≡ 0)
 not-met true n m h e = let z : ⊥ = omega arith in absurd z
 not-met false n m h e = (refl, e)
 
@@ -41,23 +42,13 @@ none-met c e =
     let h = not-met (finalGenerationBelowZero c) 21 _ (lit< tt) (g .1) in
     record { row-16 = a .0; row-17 = b .0; row-18 = d .0; row-19 = f .0; row-20 = g .0; row-21 = h .0 }
 
-neither : (a b : Bool) → a || b ≡ false → (a ≡ false) × (b ≡ false)
+pub neither : (a b : Bool) → a || b ≡ false → (a ≡ false) × (b ≡ false)
 neither true b e = (e, (cc))
 neither false b e = (refl, e)
-
-all-true : (b : Bool) → not b ≡ false → b ≡ true
-all-true true e = refl
-all-true false e = cc
 
 -- a net figure and what is taken off it at the proxies
 more-left : (n x : ℤ) → pos 0 ≤ℤ x → pos 0 <ℤ (n -ℤ x) → pos 0 <ℤ n
 more-left n x = simp zi (simp zo (omega zarith))
-
-less-left : (n x : ℤ) → pos 0 ≤ℤ x → (n -ℤ x) ≤ℤ n
-less-left n x = simp zi (simp zo (omega zarith))
-
-pub natural-least : (n : ℕ) → pos 0 ≤ℤ pos n
-natural-least n = simp zi (simp zo (omega zarith))
 
 pub on-line-least : (p : Place) (number x : ℕ) → pos 0 ≤ℤ onLine p number x
 unfolding onLine
@@ -80,9 +71,6 @@ proxy-imports-least c = sum-least (proxyImport c) (length (c .points)) (λ i l. 
 pub proxy-exports-least : (c : Content) → pos 0 ≤ℤ proxyExports c
 unfolding proxyExports proxyExport
 proxy-exports-least c = sum-least (proxyExport c) (length (c .points)) (λ i l. at-proxy-least (point c i .place) (point c i .export))
-
-pub above-suc : (n : ℕ) → pos 0 <ℤ pos (suc n)
-above-suc n = simp zi (simp zo (omega zarith))
 
 not-zero : (x : ℤ) → isZero x ≡ false → pos 0 ≤ℤ x → pos 0 <ℤ x
 unfolding isZero
@@ -108,7 +96,7 @@ module _ (c : Content) (e : balanceRow c ≡ 0) where
 
   pub zone-load-least : (z : ℕ) → z < length (c .zones) → pos 0 ≤ℤ zoneLoad c z
   unfolding zoneLoadBelowZero
-  zone-load-least z l = le-true _ _ (all-at (atLeastZero (zoneLoad c)) (length (c .zones)) z (all-true _ (none-met c e .row-17)) l)
+  zone-load-least z l = le-true _ _ (all-at (atLeastZero (zoneLoad c)) (length (c .zones)) z (not-false _ (none-met c e .row-17)) l)
 
   pub final-load-above : pos 0 <ℤ finalLoad c
   unfolding finalLoadNotAboveZero
@@ -120,7 +108,7 @@ module _ (c : Content) (e : balanceRow c ≡ 0) where
 
   pub zone-generation-least : (z : ℕ) → z < length (c .zones) → pos 0 ≤ℤ zoneGeneration c z
   unfolding zoneGenerationBelowZero
-  zone-generation-least z l = le-true _ _ (all-at (atLeastZero (zoneGeneration c)) (length (c .zones)) z (all-true _ (none-met c e .row-19)) l)
+  zone-generation-least z l = le-true _ _ (all-at (atLeastZero (zoneGeneration c)) (length (c .zones)) z (not-false _ (none-met c e .row-19)) l)
 
   pub net-generation-above : pos 0 <ℤ netGeneration c
   unfolding netGenerationZero netGeneration

@@ -1,7 +1,7 @@
 -- Every factor that a figure uses is one that is due, and so within ±10,000. Assumes nothing.
 use Prim.Native.Nat.{ℕ, _≤_, _<_}
 use native.Mathlib.Omega.{arith}
-use mathlib.Core.Path.{_≡_, refl}
+use mathlib.Core.Path.{refl}
 use lib.Dec.{lit≤}
 use lib.IntN.{natAbs}
 use lib.ListN.{length}

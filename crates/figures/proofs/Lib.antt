@@ -1,3 +1,8 @@
+pub mod Numbers
 pub mod Balanced
-pub mod Price
 pub mod Factors
+pub mod Ranges
+pub mod Bounds
+pub mod Payments
+pub mod Examples
+pub mod Accepted

@@ -6,7 +6,7 @@ use native.Mathlib.Nat.{lt-irrefl, lt-of-le-of-lt, mul-le-mul-right}
 use native.Mathlib.Decide.{ℕ-discrete}
 use native.Mathlib.Numerals.{add-one}
 use native.Mathlib.Omega.{arith}
-use lib.IntN.{ℤ, pos, natAbs, _+ℤ_}
+use lib.IntN.{ℤ, pos, natAbs, _+ℤ_, +ℤ-idl, +ℤ-idr}
 use lib.Signed.{_≤ℤ_}
 use mir.Syntax.{w64}
 use mir.Val.{SFits, toZ, ofZ}
@@ -57,6 +57,36 @@ next f B n i {p} {r} h lim l ep er =
   where
     one : B < 2 ^ 63
     one = let b : 1 * B ≤ n * B = mul-le-mul-right B (omega arith) in omega arith
+
+-- all terms zero
+pub sum-none : (f : ℕ → ℤ) (n : ℕ) → ((i : ℕ) → i < n → f i ≡ pos 0) → sumTo f n ≡ pos 0
+unfolding sumTo
+sum-none f zero h = refl
+sum-none f (suc n) h = rw (sum-none f n (λ i l. h i (omega arith)), h n (omega arith))
+
+-- all terms zero but one
+pub sum-pick : (f : ℕ → ℤ) (n k : ℕ) → k < n → ((i : ℕ) → i < n → (i ≡ k → ⊥) → f i ≡ pos 0) → sumTo f n ≡ f k
+unfolding sumTo
+sum-pick f zero k l h = absurd (lt-irrefl k (omega arith))
+sum-pick f (suc n) k l h = by (ℕ-discrete k n) (λ m. sum-pick f n k m (λ i a b. h i (omega arith) b))
+  where
+    by : Dec (k ≡ n) → (k < n → sumTo f n ≡ f k) → sumTo f n +ℤ f n ≡ f k
+    by (yes q) r = rw (q, sum-none f n (λ i a. h i (omega arith) (λ b. absurd (lt-irrefl i (omega (arith, q, b)))))) (+ℤ-idl (f n))
+    by (no q) r = rw (r (omega (arith, q)), h n (omega arith) (λ b. q (sym b))) (+ℤ-idr (f k))
+
+-- a sum of sums, either way
+plus-plus : (a b c d : ℤ) → (a +ℤ b) +ℤ (c +ℤ d) ≡ (a +ℤ c) +ℤ (b +ℤ d)
+plus-plus a b c d = simp zi (simp zo (omega zarith))
+
+pub sum-plus : (f g : ℕ → ℤ) (n : ℕ) → sumTo f n +ℤ sumTo g n ≡ sumTo (λ i. f i +ℤ g i) n
+unfolding sumTo
+sum-plus f g zero = refl
+sum-plus f g (suc n) = plus-plus (sumTo f n) (f n) (sumTo g n) (g n) ∙ ap (λ (x : ℤ). x +ℤ (f n +ℤ g n)) (sum-plus f g n)
+
+pub sum-swap : (f : ℕ → ℕ → ℤ) (m n : ℕ) → sumTo (λ j. sumTo (f j) n) m ≡ sumTo (λ i. sumTo (λ j. f j i) m) n
+unfolding sumTo
+sum-swap f zero n = sym (sum-none (λ i. pos 0) n (λ i l. refl))
+sum-swap f (suc m) n = ap (λ (x : ℤ). x +ℤ sumTo (f m) n) (sum-swap f m n) ∙ sum-plus (λ i. sumTo (λ j. f j i) m) (f m) n
 
 -- a test at every index: a loop that leaves early where it fails
 pub all-zero : (p : ℕ → Bool) → allTo p 0 ≡ true

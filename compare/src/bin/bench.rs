@@ -1,0 +1,179 @@
+//! bench: the time of the proved settlement and of the second implementation, side
+//! by side, on the same inputs.
+
+use std::hint::black_box;
+use std::time::Instant;
+
+use compare::chance::Chance;
+use compare::interval::{drawn, Interval, Scale, Sizes};
+use compare::side::{Second, Side};
+use compare::Tested;
+use second::draft;
+use second::names::Name;
+use second::statement::LONGEST_LISTING;
+
+const ROUNDS: usize = 300;
+const ROUND_NANOSECONDS: f64 = 3e5;
+
+/// What is timed, as a question to one side; the answer is a number that both
+/// sides must agree on.
+type Question<'a> = Box<dyn Fn(&dyn Side) -> i64 + 'a>;
+
+fn time(side: &dyn Side, question: &Question, repeats: usize) -> f64 {
+    let began = Instant::now();
+    for _ in 0..repeats {
+        black_box(question(black_box(side)));
+    }
+    began.elapsed().as_nanos() as f64 / repeats as f64
+}
+
+/// The best time of each side in nanoseconds, in rounds by turns.
+fn best(question: &Question) -> [f64; 2] {
+    let sides: [&dyn Side; 2] = [&Tested::default(), &Second];
+    assert_eq!(question(sides[0]), question(sides[1]), "answers differ");
+    let once = time(sides[0], question, 3).max(time(sides[1], question, 3));
+    let repeats = (ROUND_NANOSECONDS / once).ceil() as usize;
+    let mut best = [f64::MAX; 2];
+    for _ in 0..ROUNDS {
+        for (best, side) in best.iter_mut().zip(sides) {
+            *best = best.min(time(side, question, repeats));
+        }
+    }
+    best
+}
+
+fn row(what: &str, bytes: usize, question: Question) {
+    let [ours, rust] = best(&question);
+    println!(
+        "{what:<46}{bytes:>8}{:>12.2}{:>12.2}{:>8.2}",
+        ours / 1000.0,
+        rust / 1000.0,
+        ours / rust
+    );
+}
+
+/// Settles with a buffer of the longest listing's length.
+fn settle_row(what: &str, sheet: &[u8], list: &[u8]) {
+    let question = |side: &dyn Side| {
+        let mut out = [0; LONGEST_LISTING];
+        let statement = side.settle_into(sheet, list, &mut out);
+        statement.amount + i64::from(statement.refusal) + i64::from(out[0])
+    };
+    row(what, sheet.len() + list.len(), Box::new(question));
+}
+
+fn read_row(what: &str, sheet: &[u8]) {
+    let question = |side: &dyn Side| {
+        let answer = side.read(sheet);
+        (answer.place + answer.factors) as i64
+    };
+    row(what, sheet.len(), Box::new(question));
+}
+
+fn list_row(what: &str, list: &[u8], name: &Name) {
+    let question = |side: &dyn Side| side.entitlement(list, name).value;
+    row(what, list.len(), Box::new(question));
+}
+
+/// Names of 16 random bytes, in random or in rising order.
+fn names(chance: &mut Chance, count: usize, rising: bool) -> Vec<Name> {
+    let mut names: Vec<Name> = (0..count)
+        .map(|_| [0; 16].map(|_: u8| 1 + chance.below(255) as u8))
+        .collect();
+    if rising {
+        names.sort();
+    }
+    names
+}
+
+/// An accepted interval of these sizes.
+fn interval(chance: &mut Chance, sizes: Sizes, rising: bool) -> Interval {
+    let scale = Scale {
+        power: 2_000_000,
+        factor: 100,
+    };
+    loop {
+        let mut interval = drawn(chance, sizes, scale);
+        let named = |chance: &mut Chance, count| names(chance, count, rising).into_iter();
+        let zones = interval.zones.iter_mut().map(|zone| &mut zone.name);
+        zones
+            .zip(named(chance, 32))
+            .for_each(|(to, name)| *to = name);
+        let units = interval.units.iter_mut().map(|unit| &mut unit.name);
+        units
+            .zip(named(chance, 256))
+            .for_each(|(to, name)| *to = name);
+        let points = interval.points.iter_mut().map(|point| &mut point.name);
+        points
+            .zip(named(chance, 32))
+            .for_each(|(to, name)| *to = name);
+        let list = draft::entitlement(interval.name, 0);
+        if Second.settle(&interval.records().concat(), &list).refusal == 0 {
+            return interval;
+        }
+    }
+}
+
+fn list(chance: &mut Chance, flowgate: Name, rising: bool) -> Vec<u8> {
+    let mut names = names(chance, 2_500, rising);
+    // In the middle, and in its place among rising names.
+    names[1250] = flowgate;
+    if rising {
+        names.sort();
+    }
+    let entries = names.into_iter().map(|name| draft::entitlement(name, 5));
+    entries.collect::<Vec<_>>().concat()
+}
+
+/// The longest sheet and list, with names in random or in rising order.
+fn longest(chance: &mut Chance, order: &str, rising: bool) {
+    let longest = interval(chance, Sizes::LONGEST, rising);
+    let list = list(chance, longest.name, rising);
+    let mut sheet = longest.records().concat();
+    let one = draft::entitlement(longest.name, 5);
+    let what = |what: &str| format!("{what}, {order} names");
+    settle_row(&what("longest sheet, 2,500 entries"), &sheet, &list);
+    settle_row(&what("longest sheet, one entry"), &sheet, &one);
+    read_row(&what("longest sheet, reading alone"), &sheet);
+    list_row(&what("2,500 entries alone"), &list, &longest.name);
+    let factor = sheet.len() - 2;
+    sheet[factor..].copy_from_slice(&i16::MAX.to_be_bytes());
+    settle_row(&what("refused at its last record"), &sheet, &list);
+}
+
+/// From small sheets to the longest.
+fn growth(chance: &mut Chance) {
+    for (zones, units, points, pars) in [
+        (1, 1, 0, 0),
+        (2, 16, 2, 1),
+        (4, 32, 4, 1),
+        (8, 64, 8, 2),
+        (16, 128, 16, 4),
+        (32, 256, 32, 8),
+    ] {
+        let sizes = Sizes {
+            zones,
+            units,
+            points,
+            pars,
+        };
+        let interval = interval(chance, sizes, false);
+        let what = format!("zones {zones}, units {units}, points {points}, PARs {pars}");
+        let one = draft::entitlement(interval.name, 5);
+        settle_row(&what, &interval.records().concat(), &one);
+    }
+}
+
+fn main() {
+    let chance = &mut Chance::of(2024, 1);
+    println!("Microseconds, best of {ROUNDS} rounds; a buffer of {LONGEST_LISTING} bytes.");
+    println!(
+        "{:<46}{:>8}{:>12}{:>12}{:>8}",
+        "", "bytes", "ours", "Rust", "ratio"
+    );
+    settle_row("sheet S", &draft::sheet_s().concat(), &draft::list_s());
+    longest(chance, "random", false);
+    longest(chance, "rising", true);
+    println!("From small sheets to the longest, one entry, random names:");
+    growth(chance);
+}

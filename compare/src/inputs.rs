@@ -1,0 +1,388 @@
+//! Inputs drawn by chance: sound ones, extreme ones and damaged ones.
+
+use second::draft;
+use second::names::Name;
+use second::settle;
+
+use crate::chance::Chance;
+use crate::faults;
+use crate::interval::{drawn, names, signed_value, Interval, Scale, Sizes};
+
+pub const MOST_ENTITLEMENTS: usize = 2_500;
+const LARGEST_ENTITLEMENT: i64 = 100_000;
+const LARGEST_MARKET_FLOW: i64 = 10_000_000_000;
+const WATTS_PER_POWER: i64 = 100_000;
+
+/// The output buffer's length.
+#[derive(Clone, Copy, Debug)]
+pub enum Room {
+    Length(usize),
+    /// As long as the listing and this much more, or less.
+    Listing(i64),
+}
+
+#[derive(Clone, Debug)]
+pub struct Input {
+    pub sheet: Vec<u8>,
+    pub list: Vec<u8>,
+    pub room: Room,
+    /// How the input came about.
+    pub origin: String,
+}
+
+impl Input {
+    pub fn of(origin: &str, sheet: Vec<u8>, list: Vec<u8>) -> Self {
+        Input {
+            sheet,
+            list,
+            room: Room::Listing(40),
+            origin: origin.to_string(),
+        }
+    }
+}
+
+/// The k-th input of a seed.
+pub fn input(seed: u64, k: u64) -> Input {
+    let chance = &mut Chance::of(seed, k);
+    let mut input = match chance.below(100) {
+        0..=21 => plain(chance),
+        22..=35 => tiny(chance),
+        36..=41 => extreme(chance),
+        42..=49 => at_the_limit(chance),
+        50..=57 => at_the_entitlement(chance),
+        58..=59 => next_to_zero(chance),
+        60..=66 => faults::alone(chance),
+        67..=76 => faults::pair(chance),
+        77..=82 => flipped(chance),
+        83..=87 => rearranged(chance),
+        88..=91 => truncated(chance),
+        92..=94 => trailing(chance),
+        95 => oversized(chance),
+        96 => noise(chance),
+        97..=98 => listed(chance),
+        _ => longest(chance),
+    };
+    if chance.one_in(3) {
+        input.room = Room::Listing(chance.within(-3..=3));
+    } else if chance.one_in(30) {
+        input.room = Room::Length(chance.below(300));
+    }
+    input
+}
+
+/// A list of some entries that holds the flowgate's, which has this value.
+pub fn list_with(chance: &mut Chance, flowgate: Name, value: i32, count: usize) -> Vec<Vec<u8>> {
+    let mut entries: Vec<Vec<u8>> = names(chance, count)
+        .into_iter()
+        .filter(|name| *name != flowgate)
+        .map(|name| draft::entitlement(name, signed_value(chance, LARGEST_ENTITLEMENT) as i32))
+        .collect();
+    entries.truncate(MOST_ENTITLEMENTS - 1);
+    let places = [0, entries.len() / 2, entries.len()];
+    let place = chance.pick(&places);
+    entries.insert(place, draft::entitlement(flowgate, value));
+    entries
+}
+
+pub fn some_list(chance: &mut Chance, interval: &Interval) -> Vec<Vec<u8>> {
+    let value = signed_value(chance, LARGEST_ENTITLEMENT) as i32;
+    let value = chance.pick(&[value, value, 0, value % 100]);
+    let count = chance.pick(&[0, 0, 1, 2, 5, 30]);
+    list_with(chance, interval.name, value, count)
+}
+
+/// An interval that is mostly accepted.
+pub fn sound(chance: &mut Chance) -> Interval {
+    let sizes = Sizes::drawn(chance);
+    let scale = Scale {
+        factor: chance.pick(&[1, 3, 50]),
+        ..Scale::drawn(chance)
+    };
+    drawn(chance, sizes, scale)
+}
+
+fn with_list(chance: &mut Chance, origin: &str, interval: &Interval) -> Input {
+    let list = some_list(chance, interval).concat();
+    Input::of(origin, interval.records().concat(), list)
+}
+
+fn plain(chance: &mut Chance) -> Input {
+    let (sizes, scale) = (Sizes::drawn(chance), Scale::drawn(chance));
+    let interval = drawn(chance, sizes, scale);
+    with_list(chance, "any sizes and values", &interval)
+}
+
+/// Small divisors make ties, and flows next to the entitlement of 0.
+fn tiny(chance: &mut Chance) -> Input {
+    let sizes = Sizes::drawn(chance);
+    let mut interval = drawn(chance, sizes, Scale::TINY);
+    if chance.one_in(2) {
+        interval.seconds = 300;
+        interval.prices = [6000, chance.pick(&[6000, 400_000, 1])];
+    }
+    let list = draft::entitlement(interval.name, 0);
+    Input::of("tiny powers", interval.records().concat(), list)
+}
+
+fn extreme(chance: &mut Chance) -> Input {
+    let sizes = Sizes::drawn(chance);
+    let mut interval = drawn(chance, sizes, Scale::FULL);
+    let factor = chance.pick(&[10_000, -10_000]);
+    interval.flowgate.units.fill(factor);
+    interval.flowgate.zones.fill(-factor);
+    for (par, factors) in interval.pars.iter_mut().zip(&mut interval.on_pars) {
+        par.actual = chance.pick(&[200_000, -200_000]);
+        par.target = -par.actual;
+        factors.units.fill(-factor);
+        factors.zones.fill(factor);
+        factors.points.fill(chance.pick(&[10_000, -10_000]));
+    }
+    with_list(chance, "extreme values", &interval)
+}
+
+/// Adds a PAR whose control moves the market flow by tens of watts.
+fn with_lever(chance: &mut Chance, interval: &mut Interval) -> usize {
+    if interval.pars.len() == Sizes::LONGEST.pars {
+        interval.pars.pop();
+        interval.flowgate.pars.pop();
+        interval.on_pars.pop();
+    }
+    let names = names(chance, 9);
+    let mut taken = interval.pars.iter().map(|par| par.name);
+    let taken: Vec<Name> = taken.by_ref().collect();
+    let name = names.into_iter().find(|name| !taken.contains(name));
+    let lever = interval.add_par(name.unwrap_or([b'l'; 16]));
+    interval.flowgate.pars[lever] = 1;
+    lever
+}
+
+/// Moves the market flow to the wanted one, as near as tens of watts can.
+fn steer(chance: &mut Chance, interval: &mut Interval, wanted: impl Fn(i64) -> i64) {
+    let lever = with_lever(chance, interval);
+    let list = draft::entitlement(interval.name, 0);
+    let market = settle(&interval.records().concat(), &list).market;
+    let steps = (wanted(market) - market) / 10 + chance.within(-1..=1);
+    let actual = steps.clamp(-200_000, 200_000);
+    interval.pars[lever].actual = actual as i32;
+    interval.pars[lever].target = (actual - steps).clamp(-200_000, 200_000) as i32;
+}
+
+/// Market flows on and next to ±10,000,000,000 W.
+fn at_the_limit(chance: &mut Chance) -> Input {
+    let mut sizes = Sizes::drawn(chance);
+    sizes.points = sizes.points.min(31);
+    sizes.pars = sizes.pars.min(7);
+    let mut interval = drawn(chance, sizes, Scale::TINY);
+    let sign = chance.pick(&[1, -1]);
+    let point = interval.add_point([b'p'; 16]);
+    // Just short of the limit: 99,980 × 10,000 × 10 W.
+    interval.zones[0].load += 99_980;
+    interval.points[point].import = 99_980;
+    interval.points[point].class = chance.pick(&[1, 2]);
+    interval.flowgate.points[point] = 10_000 * sign as i16;
+    steer(chance, &mut interval, |_| sign * LARGEST_MARKET_FLOW);
+    let value = chance.pick(&[0, 100_000, -100_000, 99_999, -99_999]);
+    let list = draft::entitlement(interval.name, value);
+    Input::of("next to the limit", interval.records().concat(), list)
+}
+
+/// Market flows on and next to the entitlement.
+fn at_the_entitlement(chance: &mut Chance) -> Input {
+    let mut interval = sound(chance);
+    if chance.one_in(3) {
+        interval.flatten();
+    }
+    let mut entitlement = 0;
+    steer(chance, &mut interval, |market| {
+        market / WATTS_PER_POWER * WATTS_PER_POWER
+    });
+    let sheet = interval.records().concat();
+    let market = settle(&sheet, &draft::entitlement(interval.name, 0)).market;
+    if market.abs() <= LARGEST_MARKET_FLOW {
+        entitlement = (market + WATTS_PER_POWER / 2).div_euclid(WATTS_PER_POWER) as i32;
+    }
+    let list = list_with(chance, interval.name, entitlement, 3).concat();
+    Input::of("next to the entitlement", sheet, list)
+}
+
+/// A market flow of one watt against the entitlement of 0, with as much rounding as
+/// there can be: now and then the exact flow lies on the other side.
+fn next_to_zero(chance: &mut Chance) -> Input {
+    let mut input = tiny(chance);
+    for _ in 0..30 {
+        let interval = much_rounded(chance);
+        input.sheet = interval.records().concat();
+        input.list = draft::entitlement(interval.name, 0);
+        input.origin = String::from("a watt or so");
+        if settle(&input.sheet, &input.list).market.abs() == 1 {
+            break;
+        }
+    }
+    input
+}
+
+/// A market flow of a few watts, with seven PARs that carry all of their flows.
+fn much_rounded(chance: &mut Chance) -> Interval {
+    let sizes = Sizes {
+        zones: 2 + chance.below(3),
+        units: 1 + chance.below(3),
+        points: chance.below(3),
+        pars: Sizes::LONGEST.pars - 1,
+    };
+    let scale = Scale {
+        power: 40,
+        factor: 50,
+    };
+    let mut interval = drawn(chance, sizes, scale);
+    interval.monitoring = 2;
+    for (par, factor) in interval.pars.iter_mut().zip(&mut interval.flowgate.pars) {
+        par.target = par.actual;
+        *factor = chance.pick(&[9999, -9999, 10_000, -10_000]);
+    }
+    steer(chance, &mut interval, |_| 0);
+    interval
+}
+
+/// The list once in so many times, else the sheet.
+fn list_or_sheet<'a>(chance: &mut Chance, list: usize, input: &'a mut Input) -> &'a mut Vec<u8> {
+    if chance.one_in(list) {
+        &mut input.list
+    } else {
+        &mut input.sheet
+    }
+}
+
+fn flipped(chance: &mut Chance) -> Input {
+    let interval = sound(chance);
+    let mut input = with_list(chance, "bytes flipped", &interval);
+    for _ in 0..1 + chance.below(3) {
+        let bytes = list_or_sheet(chance, 5, &mut input);
+        let at = chance.below(bytes.len());
+        bytes[at] = match chance.below(3) {
+            0 => chance.draw() as u8,
+            1 => bytes[at] ^ (1 << chance.below(8)),
+            _ => chance.pick(&[0, 1, 2, 255]),
+        };
+    }
+    input
+}
+
+/// Records swapped, doubled, dropped or moved.
+fn rearranged(chance: &mut Chance) -> Input {
+    let interval = sound(chance);
+    let mut sheet = interval.records();
+    let mut list = some_list(chance, &interval);
+    let records = if chance.one_in(5) {
+        &mut list
+    } else {
+        &mut sheet
+    };
+    let (one, other) = (chance.below(records.len()), chance.below(records.len()));
+    match chance.below(4) {
+        0 => records.swap(one, other),
+        1 => {
+            let doubled = records[one].clone();
+            records.insert(other, doubled);
+        }
+        2 => {
+            records.remove(one);
+        }
+        _ => {
+            let moved = records.remove(one);
+            records.insert(other, moved);
+        }
+    }
+    Input::of("records rearranged", sheet.concat(), list.concat())
+}
+
+fn truncated(chance: &mut Chance) -> Input {
+    let interval = sound(chance);
+    let mut input = with_list(chance, "cut short", &interval);
+    let bytes = list_or_sheet(chance, 4, &mut input);
+    bytes.truncate(chance.below(bytes.len()));
+    input
+}
+
+fn trailing(chance: &mut Chance) -> Input {
+    let interval = sound(chance);
+    let mut input = with_list(chance, "bytes behind the end", &interval);
+    let bytes = list_or_sheet(chance, 3, &mut input);
+    let first = chance.pick(&[0, 1, 2, 5, 6, 7, 16, 255]);
+    bytes.push(first);
+    for _ in 0..chance.below(40) {
+        bytes.push(chance.pick(&[0, 1, 6, 16, 255]));
+    }
+    input
+}
+
+/// Files longer than any sheet or list.
+fn oversized(chance: &mut Chance) -> Input {
+    let scale = Scale::drawn(chance);
+    let interval = drawn(chance, Sizes::LONGEST, scale);
+    let count = chance.pick(&[1, MOST_ENTITLEMENTS]);
+    let mut list = list_with(chance, interval.name, 0, count).concat();
+    let mut sheet = interval.records().concat();
+    let more = chance.pick(&[1, 6, 7, 27, 28, 29, 5_000, 60_000]);
+    let bytes = if chance.one_in(2) {
+        &mut list
+    } else {
+        &mut sheet
+    };
+    let again = bytes[bytes.len() - 7..].to_vec();
+    let behind = chance.pick(&[0, 1, 6, 16]);
+    for k in 0..more {
+        bytes.push(if behind == 6 { again[k % 7] } else { behind });
+    }
+    Input::of("longer than the longest", sheet, list)
+}
+
+fn noise(chance: &mut Chance) -> Input {
+    let mut bytes = |first: u8| {
+        let mut bytes = vec![first; chance.below(2)];
+        for _ in 0..chance.pick(&[0, 0, 10, 100, 1000]) {
+            bytes.push(chance.pick(&[0, 1, 2, 3, 4, 5, 6, 16, 65, 255]));
+        }
+        bytes
+    };
+    let (sheet, list) = (bytes(1), bytes(16));
+    Input::of("any bytes", sheet, list)
+}
+
+/// Lists of all lengths up to one more than the longest, now and then faulty.
+fn listed(chance: &mut Chance) -> Input {
+    let interval = drawn(
+        chance,
+        Sizes {
+            zones: 1,
+            units: 1,
+            points: 0,
+            pars: 0,
+        },
+        Scale::TINY,
+    );
+    let any = chance.below(MOST_ENTITLEMENTS);
+    let count = chance.pick(&[any, MOST_ENTITLEMENTS - 1, MOST_ENTITLEMENTS]);
+    let mut list = list_with(chance, interval.name, 1, count);
+    let (one, other) = (chance.below(list.len()), chance.below(list.len()));
+    match chance.below(6) {
+        0 => {
+            let again = list[other].clone();
+            list[one][1..17].copy_from_slice(&again[1..17]);
+        }
+        1 => list[one] = draft::entitlement([0; 16], 0),
+        2 => list[one][17] ^= 0x40,
+        3 => list.push(draft::entitlement([b'o'; 16], 0)),
+        _ => {}
+    }
+    Input::of("long lists", interval.records().concat(), list.concat())
+}
+
+/// The longest sheet.
+pub fn longest(chance: &mut Chance) -> Input {
+    let scale = Scale {
+        factor: chance.pick(&[10, 100, 10_000]),
+        power: chance.pick(&[100_000, 2_000_000]),
+    };
+    let interval = drawn(chance, Sizes::LONGEST, scale);
+    with_list(chance, "the longest sheet", &interval)
+}

@@ -1,0 +1,442 @@
+//! Intervals drawn by chance, field by field, so that any of them can be altered
+//! before the bytes are made.
+
+use std::collections::HashSet;
+
+use second::draft;
+use second::names::Name;
+
+use crate::chance::Chance;
+
+const LARGEST_SUM: i64 = 2_000_000;
+const LARGEST_SCHEDULE: i64 = 200_000;
+
+#[derive(Clone)]
+pub struct Zone {
+    pub name: Name,
+    pub load: u32,
+    pub losses: u32,
+}
+
+#[derive(Clone)]
+pub struct Unit {
+    pub name: Name,
+    pub zone: u8,
+    pub output: u32,
+}
+
+#[derive(Clone)]
+pub struct Point {
+    pub name: Name,
+    pub class: u8,
+    pub place: u8,
+    pub import: u32,
+    pub export: u32,
+}
+
+#[derive(Clone)]
+pub struct Par {
+    pub name: Name,
+    pub class: u8,
+    pub actual: i32,
+    pub target: i32,
+}
+
+/// The factors of one target.
+#[derive(Clone, Default)]
+pub struct Factors {
+    pub units: Vec<i16>,
+    pub zones: Vec<i16>,
+    pub points: Vec<i16>,
+    pub pars: Vec<i16>,
+}
+
+impl Factors {
+    fn by_subject(&self) -> [&Vec<i16>; 4] {
+        [&self.units, &self.zones, &self.points, &self.pars]
+    }
+
+    pub fn by_subject_mut(&mut self) -> [&mut Vec<i16>; 4] {
+        let Factors {
+            units,
+            zones,
+            points,
+            pars,
+        } = self;
+        [units, zones, points, pars]
+    }
+}
+
+#[derive(Clone)]
+pub struct Interval {
+    pub name: Name,
+    pub monitoring: u8,
+    pub seconds: u16,
+    pub prices: [u32; 2],
+    pub zones: Vec<Zone>,
+    pub units: Vec<Unit>,
+    pub points: Vec<Point>,
+    pub pars: Vec<Par>,
+    pub flowgate: Factors,
+    pub on_pars: Vec<Factors>,
+}
+
+impl Interval {
+    pub fn records(&self) -> Vec<Vec<u8>> {
+        let mut records = vec![draft::head(
+            self.name,
+            self.monitoring,
+            self.seconds,
+            self.prices,
+        )];
+        for zone in &self.zones {
+            records.push(draft::zone(zone.name, zone.load, zone.losses));
+        }
+        for unit in &self.units {
+            records.push(draft::unit(unit.name, unit.zone, unit.output));
+        }
+        for p in &self.points {
+            records.push(draft::point(p.name, p.class, p.place, p.import, p.export));
+        }
+        for par in &self.pars {
+            records.push(draft::par(par.name, par.class, par.actual, par.target));
+        }
+        for (target, factors) in (0..).zip([&self.flowgate].into_iter().chain(&self.on_pars)) {
+            for (subject, values) in (1..).zip(factors.by_subject()) {
+                for (index, value) in (1..).zip(values) {
+                    records.push(draft::factor(target, subject, index, *value));
+                }
+            }
+        }
+        records
+    }
+
+    /// Adds a proxy without schedules and with factors of zero; its index.
+    pub fn add_point(&mut self, name: Name) -> usize {
+        self.points.push(Point {
+            name,
+            class: 1,
+            place: 0,
+            import: 0,
+            export: 0,
+        });
+        self.flowgate.points.push(0);
+        for factors in &mut self.on_pars {
+            factors.points.push(0);
+        }
+        self.points.len() - 1
+    }
+
+    /// Adds a PAR on its target and with factors of zero; its index.
+    pub fn add_par(&mut self, name: Name) -> usize {
+        self.pars.push(Par {
+            name,
+            class: 1,
+            actual: 0,
+            target: 0,
+        });
+        self.flowgate.pars.push(0);
+        self.on_pars.push(Factors {
+            units: vec![0; self.units.len()],
+            zones: vec![0; self.zones.len()],
+            points: vec![0; self.points.len()],
+            pars: Vec::new(),
+        });
+        self.pars.len() - 1
+    }
+
+    /// Sets all factors of units and zones to zero, so that no flow is rounded.
+    pub fn flatten(&mut self) {
+        for factors in [&mut self.flowgate].into_iter().chain(&mut self.on_pars) {
+            factors.units.fill(0);
+            factors.zones.fill(0);
+        }
+    }
+}
+
+#[derive(Clone, Copy)]
+pub struct Sizes {
+    pub zones: usize,
+    pub units: usize,
+    pub points: usize,
+    pub pars: usize,
+}
+
+impl Sizes {
+    pub const LONGEST: Sizes = Sizes {
+        zones: 32,
+        units: 256,
+        points: 32,
+        pars: 8,
+    };
+
+    /// Mostly small ones, now and then up to the longest.
+    pub fn drawn(chance: &mut Chance) -> Self {
+        let reach = chance.pick(&[2, 3, 4, 4, 8, 8, 16, 32]);
+        let mut upto = |most: usize| chance.below(most.min(reach) + 1);
+        let (zones, units, points, pars) = (upto(31), upto(255), upto(32), upto(8));
+        let units = if reach == 32 { units * 8 } else { units };
+        Sizes {
+            zones: zones + 1,
+            units: units.min(255) + 1,
+            points,
+            pars,
+        }
+    }
+}
+
+/// The largest sum of powers and the largest factor that are drawn.
+#[derive(Clone, Copy)]
+pub struct Scale {
+    pub power: i64,
+    pub factor: i64,
+}
+
+impl Scale {
+    pub const TINY: Scale = Scale {
+        power: 12,
+        factor: 3,
+    };
+    pub const FULL: Scale = Scale {
+        power: LARGEST_SUM,
+        factor: 10_000,
+    };
+
+    pub fn drawn(chance: &mut Chance) -> Self {
+        Scale {
+            power: chance.pick(&[12, 200, 5_000, 100_000, LARGEST_SUM]),
+            factor: chance.pick(&[1, 3, 50, 1_000, 10_000]),
+        }
+    }
+}
+
+/// Something from 0 to the largest, with a liking for both ends.
+pub fn value(chance: &mut Chance, largest: i64) -> i64 {
+    match chance.below(12) {
+        0 => 0,
+        1 => largest,
+        2 => (largest - 1).max(0),
+        3 => largest.min(1),
+        4 => largest / 2,
+        _ => chance.within(0..=largest),
+    }
+}
+
+/// Something within ± the largest, with a liking for both ends and zero.
+pub fn signed_value(chance: &mut Chance, largest: i64) -> i64 {
+    let value = value(chance, largest);
+    if chance.one_in(2) {
+        -value
+    } else {
+        value
+    }
+}
+
+/// So many names that differ, in one of several styles.
+pub fn names(chance: &mut Chance, count: usize) -> Vec<Name> {
+    let style = chance.below(5);
+    let mut seen = HashSet::new();
+    let mut names = Vec::with_capacity(count);
+    while names.len() < count {
+        let name = match style {
+            0 => draft::name(format!("N{}", names.len() + 1).as_bytes()),
+            1 => draft::name(format!("{:05}", names.len() + 1).as_bytes()),
+            2 => bytes_name(chance, 14, 16),
+            3 => bytes_name(chance, 0, 4),
+            _ => bytes_name(chance, 0, 16),
+        };
+        if seen.insert(name) {
+            names.push(name);
+        }
+    }
+    match chance.below(4) {
+        0 => names.sort(),
+        1 => chance.shuffle(&mut names),
+        _ => {}
+    }
+    names
+}
+
+/// A name whose first bytes are alike and whose others are any non-zero ones.
+fn bytes_name(chance: &mut Chance, alike: usize, longest: usize) -> Name {
+    let shortest = alike.max(2) + 1;
+    let length = shortest + chance.below(longest + 1 - shortest);
+    let mut name = [0; 16];
+    for (k, byte) in name[..length].iter_mut().enumerate() {
+        *byte = if k < alike {
+            b'x'
+        } else {
+            1 + chance.below(255) as u8
+        };
+    }
+    name
+}
+
+/// Splits a power into parts: evenly, by greed, or all on one.
+fn split(chance: &mut Chance, total: i64, count: usize) -> Vec<i64> {
+    let mut parts = vec![0; count];
+    let mut rest = total;
+    let even = !chance.one_in(4);
+    for (k, part) in parts.iter_mut().enumerate() {
+        let reach = if even {
+            (2 * rest / (count - k) as i64).min(rest)
+        } else {
+            rest
+        };
+        *part = value(chance, reach);
+        rest -= *part;
+    }
+    let last = chance.below(count);
+    parts[last] += rest;
+    chance.shuffle(&mut parts);
+    parts
+}
+
+/// Draws an interval that passes rows 1 to 21.
+pub fn drawn(chance: &mut Chance, sizes: Sizes, scale: Scale) -> Interval {
+    let mut interval = frame(chance, sizes);
+    let loads = 1 + value(chance, scale.power - 1);
+    for (zone, load) in interval
+        .zones
+        .iter_mut()
+        .zip(split(chance, loads, sizes.zones))
+    {
+        let losses = value(chance, load) / chance.pick(&[1, 8, 100]);
+        (zone.load, zone.losses) = ((load - losses) as u32, losses as u32);
+    }
+    let outputs = 1 + value(chance, scale.power - 1);
+    for (unit, output) in interval
+        .units
+        .iter_mut()
+        .zip(split(chance, outputs, sizes.units))
+    {
+        unit.output = output as u32;
+        unit.zone = 1 + chance.below(sizes.zones) as u8;
+    }
+    schedule(chance, &mut interval);
+    let reach = scale.power.min(LARGEST_SCHEDULE);
+    for par in &mut interval.pars {
+        par.actual = signed_value(chance, reach) as i32;
+        par.target = signed_value(chance, reach) as i32;
+    }
+    draw_factors(chance, &mut interval, scale.factor);
+    interval
+}
+
+/// Names, codes and prices; powers and factors are zero.
+fn frame(chance: &mut Chance, sizes: Sizes) -> Interval {
+    let named = |chance: &mut Chance, count| names(chance, count).into_iter();
+    let zones = named(chance, sizes.zones).map(|name| Zone {
+        name,
+        load: 0,
+        losses: 0,
+    });
+    let zones = zones.collect();
+    let units = named(chance, sizes.units).map(|name| Unit {
+        name,
+        zone: 1,
+        output: 0,
+    });
+    let mut interval = Interval {
+        name: names(chance, 1)[0],
+        monitoring: chance.pick(&[1, 2]),
+        seconds: chance.pick(&[1, 300, 300, 600, 899, 900]),
+        prices: [price(chance), price(chance)],
+        zones,
+        units: units.collect(),
+        points: Vec::new(),
+        pars: Vec::new(),
+        flowgate: Factors::default(),
+        on_pars: Vec::new(),
+    };
+    interval.flowgate.units = vec![0; sizes.units];
+    interval.flowgate.zones = vec![0; sizes.zones];
+    for name in named(chance, sizes.points) {
+        let point = interval.add_point(name);
+        interval.points[point].class = chance.pick(&[1, 2]);
+    }
+    for name in named(chance, sizes.pars) {
+        let par = interval.add_par(name);
+        interval.pars[par].class = chance.pick(&[1, 2]);
+    }
+    interval
+}
+
+/// 6000 with 300 s and 2000 with 900 s make ties of odd differences.
+fn price(chance: &mut Chance) -> u32 {
+    let drawn = value(chance, 400_000) as u32;
+    chance.pick(&[6000, 2000, 400_000, 1, drawn, drawn])
+}
+
+/// Draws imports and exports that leave loads and generation sound.
+fn schedule(chance: &mut Chance, interval: &mut Interval) {
+    let loads = interval.zones.iter().map(|z| i64::from(z.load + z.losses));
+    let mut loads: Vec<i64> = loads.collect();
+    let mut generation = vec![0; loads.len()];
+    for unit in &interval.units {
+        generation[usize::from(unit.zone) - 1] += i64::from(unit.output);
+    }
+    for point in &mut interval.points {
+        if chance.one_in(2) {
+            continue;
+        }
+        let zone = chance.below(loads.len());
+        point.place = zone as u8 + 1;
+        point.import = take(chance, &mut loads[zone]);
+        point.export = take(chance, &mut generation[zone]);
+    }
+    // One tenth of a MW stays, since final load must be above zero.
+    let (mut load, mut generation) = (loads.iter().sum::<i64>() - 1, generation.iter().sum());
+    for point in interval.points.iter_mut().filter(|point| point.place == 0) {
+        point.import = take(chance, &mut load);
+        point.export = take(chance, &mut generation);
+    }
+}
+
+fn take(chance: &mut Chance, rest: &mut i64) -> u32 {
+    let reach = (*rest / chance.pick(&[1, 3, 10])).clamp(0, LARGEST_SCHEDULE);
+    let taken = value(chance, reach);
+    *rest -= taken;
+    taken as u32
+}
+
+fn draw_factors(chance: &mut Chance, interval: &mut Interval, largest: i64) {
+    let Interval {
+        flowgate, on_pars, ..
+    } = interval;
+    for factors in [flowgate].into_iter().chain(on_pars) {
+        for values in factors.by_subject_mut() {
+            for value in values {
+                *value = signed_value(chance, largest) as i16;
+            }
+        }
+    }
+    // Halves of odd flows make ties of what PARs carry.
+    for value in &mut interval.flowgate.pars {
+        if chance.one_in(4) {
+            *value = chance.pick(&[5000, -5000, 2500, 10_000, -10_000]);
+        }
+    }
+}
+
+#[cfg(test)]
+mod tests {
+    use super::*;
+
+    #[test]
+    fn drawn_intervals_pass_the_reader() {
+        for input in 0..300 {
+            let chance = &mut Chance::of(3, input);
+            let (sizes, scale) = (Sizes::drawn(chance), Scale::drawn(chance));
+            let sheet = drawn(chance, sizes, scale).records().concat();
+            assert!(second::sheet::read(&sheet).is_ok());
+        }
+    }
+
+    #[test]
+    fn the_longest_sheet_has_its_length() {
+        let chance = &mut Chance::of(4, 0);
+        let longest = drawn(chance, Sizes::LONGEST, Scale::FULL);
+        assert_eq!(longest.records().concat().len(), 27_748);
+    }
+}

@@ -1,0 +1,116 @@
+-- The exact figures of document 01's examples, of sheet S, and of a sheet whose exact price is another than the one taken. Assumes nothing.
+use Prim.Native.Nat.{_+_}
+use native.Mathlib.Omega.{arith}
+use mathlib.Core.Path.{_≡_, refl}
+use mathlib.Core.List.{List, [], _∷_, map}
+use lib.Dec.{lit≤}
+use lib.IntN.{ℤ, pos, negsuc, natAbs, _-ℤ_, _*ℤ_}
+use lib.ListN.{length}
+use lib.Signed.{_<ℤ_}
+use Rattle.records.specs.declared.Place.the-variants.{Proxy}
+use Rattle.records.specs.Content.{Content, head}
+use Rattle.records.specs.Valid.{Valid}
+use Rattle.figures.specs.Balance.{balanceRow}
+use Rattle.figures.specs.Flow.{common, noncommon, marketFlow}
+use Rattle.figures.specs.Payment.{priceTaken, amount}
+use Rattle.figures.proofs.Examples.{printed, refused, headOf, zoneOf, unitOf, pointOf, parOf, factorOf, plain, sheetS, thirds, exporting}
+use Rattle.figures.proofs.Accepted.{proxy-fits, dueCount, valid-of, s-valid, s-balanced}
+use Rattle.accuracy.specs.Fraction.{Fraction, entire, _⊕_, _⊖_, _⊗_, _⊘_, sumOf, Equals, Near}
+use Rattle.accuracy.specs.Exact.{exactGenerationToLoad, exactCarriedTerm, exactRedirect, exactNonCommonRedirect, exactMarketFlow, exactSettlementFlow, exactDifference, exactPrice, exactAmountOf, exactAmount}
+use Rattle.accuracy.specs.Accurate.{marketBound, Accurate}
+use Rattle.accuracy.proofs.Accuracy.{accurate}
+
+-- the exact amount, and all that it goes through
+unfoldable settled : Content → ℤ → Fraction
+unfolding printed entire _⊕_ _⊖_ _⊗_ _⊘_ sumOf exactGenerationToLoad exactCarriedTerm exactRedirect exactNonCommonRedirect exactMarketFlow exactSettlementFlow exactDifference exactPrice exactAmountOf exactAmount
+settled c entitlement = exactAmount c entitlement
+
+-- content; numerator and denominator of the exact generation-to-load flow
+abbrev flows : List (Content × ℤ × ℤ)
+flows = (thirds, pos 20, pos 3) ∷ (exporting, negsuc 9, pos 1) ∷ []
+
+pub exact-flows : map (λ (r : Content × ℤ × ℤ). exactGenerationToLoad (r .0) 0 .numerator *ℤ r .2) flows ≡ map (λ (r : Content × ℤ × ℤ). r .1 *ℤ exactGenerationToLoad (r .0) 0 .denominator) flows
+unfolding settled
+exact-flows = refl
+
+-- sheet S is accurate, as an accepted sheet, and exact to the last step
+pub s-accurate : (entitlement : ℤ) → Accurate sheetS entitlement
+s-accurate = accurate sheetS s-valid s-balanced
+
+pub s-exact : Equals (amount sheetS (pos 100)) (exactAmount sheetS (pos 100))
+unfolding settled
+s-exact = record { above = record { lt = tt }; same = refl }
+
+-- The market flow is at the entitlement, 100,000 W, and the exact one 1/3 W below it: the price taken is 0, the exact one the Non-Monitoring price
+abbrev brink : Content
+brink =
+    plain (headOf 2 900 100 400000) (zoneOf 1 0 ∷ zoneOf 29 0 ∷ []) (unitOf 1 1 ∷ []) (pointOf noncommon Proxy 1 0 ∷ [])
+    (factorOf 0 1 1 (pos 1) ∷ factorOf 0 2 1 (pos 1) ∷ factorOf 0 2 2 (pos 0) ∷ factorOf 0 3 1 (pos 9999) ∷ [])
+
+brink-valid : Valid brink
+unfolding dueCount
+brink-valid = valid-of brink (omega arith) (omega arith) (record { sort-least = lit≤ tt; sort-most = lit≤ tt; place = proxy-fits 2; import = lit≤ tt; export = lit≤ tt }, tt)
+
+brink-balanced : balanceRow brink ≡ 0
+unfolding refused
+brink-balanced = refl
+
+pub brink-accurate : Accurate brink (pos 1)
+brink-accurate = accurate brink brink-valid brink-balanced (pos 1)
+
+pub brink-prices : marketFlow brink ∷ priceTaken brink (pos 1) ∷ exactPrice (head brink) (exactDifference brink (pos 1)) ∷ [] ≡ pos 100000 ∷ pos 0 ∷ pos 400000 ∷ []
+unfolding settled
+brink-prices = refl
+
+-- its exact amount is -100/3, and ours 0
+pub brink-amounts : (amount brink (pos 1) ≡ pos 0) × (exactAmount brink (pos 1) .numerator *ℤ pos 3 ≡ negsuc 99 *ℤ exactAmount brink (pos 1) .denominator)
+unfolding settled
+brink-amounts = (refl, refl)
+
+-- With a PAR of each class the market flow is 3118 W and the exact one 202437/65 W, 3.58 W less: p + 2 W is far enough, and p + 1 W is not
+abbrev far : Content
+far = record {
+  heads = headOf 2 900 100 100 ∷ [];
+  zones = zoneOf 20 0 ∷ zoneOf 45 0 ∷ [];
+  units = unitOf 1 51 ∷ [];
+  points = pointOf common Proxy 0 1 ∷ [];
+  pars = parOf common (pos 0) (pos 0) ∷ parOf noncommon (pos 0) (pos 0) ∷ [];
+  factors = factorOf 0 1 1 (negsuc 5)
+      ∷ factorOf 0 2 1 (pos 3)
+      ∷ factorOf 0 2 2 (pos 9)
+      ∷ factorOf 0 3 1 (pos 0)
+      ∷ factorOf 0 4 1 (pos 9999)
+      ∷ factorOf 0 4 2 (pos 9999)
+      ∷ factorOf 1 1 1 (negsuc 5)
+      ∷ factorOf 1 2 1 (negsuc 0)
+      ∷ factorOf 1 2 2 (pos 6)
+      ∷ factorOf 1 3 1 (pos 0)
+      ∷ factorOf 2 1 1 (negsuc 3)
+      ∷ factorOf 2 2 1 (pos 9)
+      ∷ factorOf 2 2 2 (pos 4)
+      ∷ factorOf 2 3 1 (pos 0)
+      ∷ [];
+}
+
+pub far-flows : (marketFlow far ≡ pos 3118) × (exactMarketFlow far .numerator *ℤ pos 65 ≡ pos 202437 *ℤ exactMarketFlow far .denominator)
+unfolding settled
+far-flows = (refl, refl)
+
+pub far-near : Near (marketFlow far) (exactMarketFlow far) (entire (marketBound far))
+unfolding settled marketBound
+far-near = record { above = record { lt = tt }; bound = record { lt = tt }; apart = record { le = tt } }
+
+pub far-beyond : (pos (length (far .pars) + 1) *ℤ exactMarketFlow far .denominator) <ℤ pos (natAbs (marketFlow far *ℤ exactMarketFlow far .denominator -ℤ exactMarketFlow far .numerator))
+unfolding settled
+far-beyond = record { lt = tt }
+
+far-valid : Valid far
+unfolding dueCount
+far-valid = valid-of far (omega arith) (omega arith) (record { sort-least = lit≤ tt; sort-most = lit≤ tt; place = proxy-fits 2; import = lit≤ tt; export = lit≤ tt }, tt)
+
+far-balanced : balanceRow far ≡ 0
+unfolding refused
+far-balanced = refl
+
+pub far-accurate : (entitlement : ℤ) → Accurate far entitlement
+far-accurate = accurate far far-valid far-balanced

@@ -1,0 +1,97 @@
+-- Row 14 on one record: what it leaves of a record that passes, and the conditions as the code tests them. Assumes nothing.
+use Prim.Native.Nat.{ℕ, zero, suc, _+_, _*_, _≤_, _<_}
+use mathlib.Core.Path.{_≡_, refl, sym, _∙_}
+use mathlib.Core.Bool.{Bool, true, false, _||_, or-assoc, or-comm, or-false, or-true}
+use mathlib.Core.List.{List}
+use native.Mathlib.Nat.{add-zero, mul-suc, mul-zero}
+use native.Mathlib.Omega.{arith}
+use borrow.Author.Tests.{eq-eqb, eqb-true, le-ltb, leb-false, lt-leb, lt-ltb, ltb-false, not-false}
+use lib.IntN.{natAbs}
+use lib.ListN.{length}
+use lib.Seq.{length-take-le}
+use Rattle.names.specs.Names.{among, ifB, nameAt, nameOk, sameList}
+use Rattle.entitlements.specs.Entitlements.{Entry, entryKind, bodyLength, recordLength, mostRecords, mostValue, entryOf, cutShort, otherKind, badName, outOfRange, repeated, surplus, recordFault}
+use Rattle.entitlements.specs.Steps.{firstEntries}
+
+-- an entry that passes behind the entries es
+pub record Kept (es : List Entry) (e : Entry) : Type 0 where
+  pub sized : length (e .name) ≡ 16
+  pub named : nameOk (e .name) ≡ true
+  pub range : natAbs (e .value) ≤ mostValue
+  pub new : repeated es (e .name) ≡ false
+  pub room : length es < mostRecords
+
+-- a record that passes, of kind k with r behind its kind byte
+pub record Passes (es : List Entry) (k : ℕ) (r : List ℕ) : Type 0 where
+  pub whole : bodyLength ≤ length r
+  pub kind : k ≡ entryKind
+  pub kept : Kept es (entryOf r)
+
+-- tests
+pub either : {P : Type 0} (t : Bool) → (t ≡ true → P) → (t ≡ false → P) → P
+either true p q = p refl
+either false p q = q refl
+
+pub or-none : (a b : Bool) → (a || b) ≡ false → (a ≡ false) × (b ≡ false)
+or-none true b e = absurd (let z : _≡_ {A = ℕ} 0 1 = cc in omega arith)
+or-none false b e = (refl, e)
+
+module _ (es : List Entry) (k : ℕ) (r : List ℕ) where
+  name-sized : bodyLength ≤ length r → length (entryOf r .name) ≡ 16
+  unfolding entryOf
+  name-sized h = length-take-le 16 r (omega arith)
+
+  pub passes : recordFault es k r ≡ false → Passes es k r
+  unfolding recordFault cutShort otherKind badName outOfRange surplus
+  passes e =
+      let a = or-none _ _ e in
+      let b = or-none _ _ (a .0) in
+      let c = or-none _ _ (b .0) in
+      let d = or-none _ _ (c .0) in
+      let f = or-none _ _ (d .0) in
+      let w : bodyLength ≤ length r = ltb-false _ _ (f .0) in
+      record {
+        whole = w;
+        kind = eqb-true _ _ (not-false _ (f .1));
+        kept = record { sized = name-sized w; named = not-false _ (d .1); range = ltb-false _ _ (c .1); new = b .1; room = leb-false _ _ (a .1) };
+      }
+
+  pub no-fault : Passes es k r → recordFault es k r ≡ false
+  unfolding recordFault cutShort otherKind badName outOfRange surplus
+  no-fault p =
+      let q = p .kept in
+      rw (le-ltb (length r) bodyLength (p .whole), eq-eqb k entryKind (p .kind), q .named, le-ltb mostValue _ (q .range), q .new, lt-leb mostRecords (length es) (q .room))
+
+  pub fault-cut : length r < bodyLength → recordFault es k r ≡ true
+  unfolding recordFault cutShort
+  fault-cut h = rw (lt-ltb _ _ h)
+
+  -- name and value are tested together
+  pub fault-whole : bodyLength ≤ length r →
+      recordFault es k r ≡ (otherKind k || (badName (entryOf r .name) || outOfRange (entryOf r .value)) || repeated es (entryOf r .name) || surplus es)
+  unfolding recordFault cutShort
+  fault-whole h = rw (le-ltb (length r) bodyLength h, or-assoc (otherKind k) (badName (entryOf r .name)) (outOfRange (entryOf r .value)))
+
+-- a name among those of the first n records: the code goes forwards, the definition back from the latest
+if-or : (a b : Bool) → ifB a true b ≡ (b || a)
+if-or true b = sym (or-true b)
+if-or false b = sym (or-false b)
+
+among-last : (s name : List ℕ) (at stride n : ℕ) → among s name at stride (suc n) ≡ (among s name at stride n || sameList (nameAt s (at + stride * n)) name)
+unfolding among
+among-last s name at stride zero = rw (mul-zero, add-zero) (if-or (sameList (nameAt s at) name) false)
+among-last s name at stride (suc n) =
+    let e : at + (stride * n + stride) ≡ at + stride + stride * n = omega arith in
+    rw (mul-suc, among-last s name (at + stride) stride n, e) (if-later (sameList (nameAt s at) name) (among s name (at + stride) stride n) _)
+  where
+    if-later : (a b c : Bool) → ifB a true (b || c) ≡ (ifB a true b || c)
+    if-later true b c = refl
+    if-later false b c = refl
+
+pub seen-repeated : (s name : List ℕ) (n : ℕ) → among s name 1 recordLength n ≡ repeated (firstEntries s n) name
+unfolding repeated firstEntries entryOf among
+seen-repeated s name zero = refl
+seen-repeated s name (suc n) =
+    let e : recordLength * n + 1 ≡ 1 + recordLength * n = omega arith in
+    among-last s name 1 recordLength n
+    ∙ rw (seen-repeated s name n, e) (or-comm (repeated (firstEntries s n) name) (sameList (nameAt s (1 + recordLength * n)) name))

@@ -1,0 +1,2 @@
+pub mod Entitlements
+pub mod Steps

@@ -1,0 +1,99 @@
+// The entitlement list (document 01, 'The interval sheet'), rows 14 and 15.
+ghost use mathlib.Core.Path.{_≡_};
+ghost use mathlib.Core.Bool.{false, _||_};
+ghost use Prim.Native.Nat.{_+_, _*_, _≤_, _<_};
+ghost use lib.ListN.{length, drop, getD};
+ghost use Rattle.entitlements.specs.Entitlements.{bodyLength, recordLength, entryOf, badName, outOfRange, recordFault, row14, entriesOf, lookUp, entitlement};
+ghost use Rattle.entitlements.specs.Steps.{firstEntries};
+
+// What the list says of a flowgate: the Non-Monitoring RTO's entitlement in tenths of a MW, or the refusal's number.
+pub enum Entitlement {
+    Found(i64),
+    Refused(u8),
+}
+
+// A record is one byte of kind and a body: name 16, entitlement 4.
+const KIND: u8 = 0x10;
+
+const BODY: usize = 20;
+
+const RECORD: usize = BODY + 1;
+
+const MOST_RECORDS: usize = 2500;
+
+const MOST_VALUE: u64 = 100_000;
+
+// The entitlement that a body holds.
+fn value_of(body: &[u8]) -> i64
+    requires { ⌜ bodyLength ≤ length (now body) ⌝ }
+    ensures { λ r. ⌜ r ≡ entryOf (now (body .entry)) .value ⌝ }
+{
+    fields::sbe32_at(body, 16) as i64
+}
+
+// Whether a body's name or its value meets row 14.
+fn entry_fault(body: &[u8]) -> bool
+    requires { ⌜ bodyLength ≤ length (now body) ⌝ }
+    ensures { λ r. ⌜ r ≡ (badName (entryOf (now (body .entry)) .name) || outOfRange (entryOf (now (body .entry)) .value)) ⌝ }
+{
+    let size = integers::magnitude(value_of(body));
+    !names::name_ok(names::name_at(body, 0)) | (MOST_VALUE < size)
+}
+
+// Whether the record at `at`, behind n others, meets row 14.
+fn record_fault(list: &[u8], at: usize, n: usize) -> bool
+    requires { ⌜ (at ≡ recordLength * n) × (at < length (now list)) ⌝ }
+    ensures { λ r. ⌜ r ≡ recordFault (firstEntries (now (list .entry)) n) (getD (now (list .entry)) at 0) (drop (at + 1) (now (list .entry))) ⌝ }
+{
+    let from = at + 1;
+    if list.len() - from < BODY {
+        return true;
+    }
+    let twice = names::seen(list, from, 1, RECORD, n);
+    (list[at] != KIND) | entry_fault(&list[from..]) | twice | (MOST_RECORDS <= n)
+}
+
+// Whether a record of the list meets row 14.
+fn faulty(list: &[u8]) -> bool
+    ensures { λ r. ⌜ r ≡ row14 (now (list .entry)) ⌝ }
+{
+    let mut at = 0;
+    let mut n = 0;
+    while at < list.len() {
+        if record_fault(list, at, n) {
+            return true;
+        }
+        at += RECORD;
+        n += 1;
+    }
+    false
+}
+
+// The entitlement of the entry that bears the name, or 15, in a list that passes row 14.
+fn look_up(entries: &[u8], name: &[u8]) -> Entitlement
+    requires { ⌜ row14 (now entries) ≡ false ⌝ }
+    ensures { λ r. ⌜ r ≡ lookUp (entriesOf (now (entries .entry))) (now (name .entry)) ⌝ }
+{
+    if name.len() != 16 {
+        return Entitlement::Refused(15);
+    }
+    let mut at = 0;
+    while at < entries.len() {
+        let from = at + 1;
+        if names::same_at(entries, from, name, 0) {
+            return Entitlement::Found(value_of(&entries[from..]));
+        }
+        at += RECORD;
+    }
+    Entitlement::Refused(15)
+}
+
+// What the list says of the flowgate of that name. Row 14 is about the whole list, and goes before 15.
+pub fn find(list: &[u8], name: &[u8]) -> Entitlement
+    ensures { λ r. ⌜ r ≡ entitlement (now (list .entry)) (now (name .entry)) ⌝ }
+{
+    if faulty(list) {
+        return Entitlement::Refused(14);
+    }
+    look_up(list, name)
+}

@@ -1,0 +1,184 @@
+-- How large each figure can be where none of refusals 16 to 21 is met. Every one fits an i64. Assumes nothing.
+use Prim.Native.Nat.{ℕ, _+_, _-_, _*_, _≤_, _<_}
+use native.Mathlib.Nat.{le-refl, le-trans, mul-le-mul-left}
+use native.Mathlib.Omega.{arith}
+use mathlib.Core.Path.{_≡_, _∙_}
+use mathlib.Core.Bool.{Bool, true, false, cond}
+use borrow.Author.Tests.{eq-eqb, ne-eqb}
+use lib.Dec.{eqb}
+use lib.IntN.{ℤ, pos, natAbs, _+ℤ_, _-ℤ_, _*ℤ_}
+use lib.ListN.{length}
+use lib.Signed.{_≤ℤ_}
+use Rattle.integers.specs.Sum.{sumTo}
+use Rattle.integers.proofs.Linear.{zarith}
+use Rattle.integers.proofs.Order.{≤-trans, lt-le}
+use Rattle.integers.proofs.Absolute.{abs-add, abs-sub, abs-mul}
+use Rattle.integers.proofs.Sums.{sum-same, sum-least, sum-pick, sum-swap}
+use Rattle.integers.proofs.Tactic.{zi, zo}
+use Rattle.records.specs.Content.{Content, unit, point, par}
+use Rattle.records.specs.Valid.{Valid}
+use Rattle.figures.specs.Balance.{totalLoad, importInto, lineImports, zoneLoad, netLoad, output, outputIn, zoneOutput, exportFrom, lineExports, zoneGeneration, netGeneration, finalGeneration, grossOutput, grossLoad, balanceRow}
+use Rattle.figures.specs.Flow.{common, noncommon, unitFactor, zoneFactor, parFactor, outputTerm, weightedOutput, loadTerm, weightedLoad, firstDividend, loadShare, grossFlow, secondDividend, generationToLoad, parallel, shadow, control, carriedTerm, carriedSum, carried, redirect, nyisoMonitors, nonCommonRedirect, marketFlow}
+use Rattle.figures.proofs.Numbers.{natural-least, less-left, size-most, size-rise, cond-within, times-within, sum-within, sum-rise, sum-term, sum-weighted, quotient-share}
+use Rattle.figures.proofs.Balanced.{on-line-least, gross-load-most, gross-output-most, zone-load-least, net-load-above, net-generation-above, final-generation-least, final-generation-most}
+use Rattle.figures.proofs.Factors.{unit-factor-within, zone-factor-within, par-factor-within}
+use Rattle.figures.proofs.Ranges.{parallel-within, shadow-within, control-within}
+
+-- a number times a factor
+weighted : (x f : ℤ) → natAbs f ≤ 10000 → natAbs (x *ℤ f) ≤ 10000 * natAbs x
+weighted x f h = omega (arith, abs-mul x f, mul-le-mul-left (natAbs x) h)
+
+-- the market flow's five parts
+parts-small : (a b d f g : ℤ) → natAbs a ≤ 400000000000 → natAbs b ≤ 640000000000 → natAbs d ≤ 640000000000 → natAbs f ≤ 8640000000000 → natAbs g ≤ 8640000000000 →
+    natAbs (a +ℤ b +ℤ d -ℤ f -ℤ g) ≤ 18960000000000
+parts-small a b d f g = simp zi (simp zo (omega zarith))
+
+line-imports-least : (c : Content) (z : ℕ) → pos 0 ≤ℤ lineImports c z
+unfolding lineImports importInto
+line-imports-least c z = sum-least (importInto c z) (length (c .points)) (λ i l. on-line-least (point c i .place) (z + 1) (point c i .import))
+
+line-exports-least : (c : Content) (z : ℕ) → pos 0 ≤ℤ lineExports c z
+unfolding lineExports exportFrom
+line-exports-least c z = sum-least (exportFrom c z) (length (c .points)) (λ i l. on-line-least (point c i .place) (z + 1) (point c i .export))
+
+output-least : (c : Content) (i : ℕ) → pos 0 ≤ℤ output c i
+unfolding output
+output-least c i = natural-least (unit c i .output)
+
+pub gross-output-least : (c : Content) → pos 0 ≤ℤ grossOutput c
+unfolding grossOutput
+gross-output-least c = sum-least (output c) (length (c .units)) (λ i l. output-least c i)
+
+-- imports only reduce the load, and exports the generation
+net-load-gross : (c : Content) → netLoad c ≤ℤ grossLoad c
+unfolding netLoad grossLoad zoneLoad
+net-load-gross c = sum-rise (zoneLoad c) (totalLoad c) (length (c .zones)) (λ z l. less-left (totalLoad c z) (lineImports c z) (line-imports-least c z))
+
+-- every unit is in one of the sheet's zones
+module _ (c : Content) (v : Valid c) where
+  in-one : (i : ℕ) → i < length (c .units) → sumTo (λ z. outputIn c z i) (length (c .zones)) ≡ output c i
+  unfolding outputIn
+  in-one i l =
+      let u = v .unit-fits i l in
+      let k : unit c i .zone ≡ unit c i .zone - 1 + 1 = omega (arith, u .zone-least) in
+      sum-pick (λ z. cond (eqb (unit c i .zone) (z + 1)) (output c i) (pos 0)) (length (c .zones)) (unit c i .zone - 1) (omega (arith, u .zone-least, u .zone-most))
+      (λ z m n. rw (ne-eqb (unit c i .zone) (z + 1) (λ e. n (omega arith))))
+      ∙ rw (eq-eqb (unit c i .zone) (unit c i .zone - 1 + 1) k)
+
+  pub gross-output-is : sumTo (zoneOutput c) (length (c .zones)) ≡ grossOutput c
+  unfolding zoneOutput grossOutput
+  gross-output-is = sum-swap (outputIn c) (length (c .zones)) (length (c .units)) ∙ sum-same _ _ (length (c .units)) in-one
+
+  net-generation-gross : netGeneration c ≤ℤ grossOutput c
+  unfolding netGeneration zoneGeneration
+  net-generation-gross =
+      rw (← gross-output-is) (sum-rise (zoneGeneration c) (zoneOutput c) (length (c .zones)) (λ z l. less-left (zoneOutput c z) (lineExports c z) (line-exports-least c z)))
+
+module _ {c : Content} (v : Valid c) (e : balanceRow c ≡ 0) where
+  -- steps 1 and 2
+  pub net-load-small : natAbs (netLoad c) ≤ 2000000
+  net-load-small = size-most (netLoad c) 2000000 (lt-le (net-load-above c e)) (≤-trans (net-load-gross c) (gross-load-most c e))
+
+  pub zone-load-small : (z : ℕ) → z < length (c .zones) → natAbs (zoneLoad c z) ≤ 2000000
+  unfolding netLoad
+  zone-load-small z l =
+      le-trans (size-rise (zoneLoad c z) (netLoad c) (zone-load-least c e z l) (sum-term (zoneLoad c) (length (c .zones)) z (zone-load-least c e) l)) net-load-small
+
+  pub gross-output-small : natAbs (grossOutput c) ≤ 2000000
+  gross-output-small = size-most (grossOutput c) 2000000 (gross-output-least c) (gross-output-most c e)
+
+  pub net-generation-small : natAbs (netGeneration c) ≤ 2000000
+  net-generation-small = size-most (netGeneration c) 2000000 (lt-le (net-generation-above c e)) (≤-trans (net-generation-gross c v) (gross-output-most c e))
+
+  pub final-generation-small : natAbs (finalGeneration c) ≤ 2000000
+  final-generation-small = le-trans (size-rise (finalGeneration c) (netGeneration c) (final-generation-least c e) (final-generation-most c e)) net-generation-small
+
+  -- step 3, for a target of the sheet
+  module _ {target : ℕ} (k : target ≤ length (c .pars)) where
+    pub weighted-output-small : natAbs (weightedOutput c target) ≤ 20000000000
+    unfolding weightedOutput outputTerm grossOutput
+    weighted-output-small =
+        omega (
+          arith,
+          gross-output-small,
+          sum-weighted (outputTerm c target) (output c) 10000 (length (c .units))
+              (λ i l. weighted (output c i) (unitFactor c target i) (unit-factor-within v k i l)) (λ i l. output-least c i),
+        )
+
+    weighted-load-share : natAbs (weightedLoad c target) ≤ 10000 * natAbs (netLoad c)
+    unfolding weightedLoad loadTerm netLoad
+    weighted-load-share =
+        sum-weighted (loadTerm c target) (zoneLoad c) 10000 (length (c .zones))
+        (λ z l. weighted (zoneLoad c z) (zoneFactor c target z) (zone-factor-within v k z l)) (zone-load-least c e)
+
+    pub weighted-load-small : natAbs (weightedLoad c target) ≤ 20000000000
+    weighted-load-small = omega (arith, weighted-load-share, net-load-small)
+
+    pub first-dividend-small : natAbs (firstDividend c target) ≤ 400000000000000000
+    unfolding firstDividend
+    first-dividend-small =
+        times-within (pos 10 *ℤ grossOutput c) (weightedLoad c target) (times-within (pos 10) (grossOutput c) (le-refl 10) gross-output-small) weighted-load-small
+
+    pub load-share-small : natAbs (loadShare c target) ≤ 200000000000
+    unfolding loadShare firstDividend
+    load-share-small =
+        quotient-share (firstDividend c target) (netLoad c) 200000000000 (net-load-above c e)
+        (let h = times-within (pos 10 *ℤ grossOutput c) (weightedLoad c target) (times-within (pos 10) (grossOutput c) (le-refl 10) gross-output-small) weighted-load-share in
+        omega arith)
+
+    pub gross-flow-small : natAbs (grossFlow c target) ≤ 400000000000
+    unfolding grossFlow
+    gross-flow-small =
+        omega (
+          arith,
+          abs-sub (pos 10 *ℤ weightedOutput c target) (loadShare c target),
+          times-within (pos 10) (weightedOutput c target) (le-refl 10) weighted-output-small,
+          load-share-small,
+        )
+
+    pub second-dividend-small : natAbs (secondDividend c target) ≤ 800000000000000000
+    unfolding secondDividend
+    second-dividend-small = times-within (grossFlow c target) (finalGeneration c) gross-flow-small final-generation-small
+
+    pub generation-to-load-small : natAbs (generationToLoad c target) ≤ 400000000000
+    unfolding generationToLoad secondDividend
+    generation-to-load-small =
+        quotient-share (secondDividend c target) (netGeneration c) 400000000000 (net-generation-above c e)
+        (times-within (grossFlow c target) (finalGeneration c) gross-flow-small
+        (size-rise (finalGeneration c) (netGeneration c) (final-generation-least c e) (final-generation-most c e)))
+
+  -- steps 5 and 6
+  pub carried-term-small : (class i : ℕ) → i < length (c .pars) → natAbs (carriedTerm c class i) ≤ 10400000000000000
+  unfolding carriedTerm
+  carried-term-small class i l =
+      let k : i + 1 ≤ length (c .pars) = omega arith in
+      cond-within (eqb (par c i .class) class) (parFactor c i *ℤ (generationToLoad c (i + 1) +ℤ parallel c (i + 1)))
+      (times-within (parFactor c i) (generationToLoad c (i + 1) +ℤ parallel c (i + 1)) {b = 1040000000000} (par-factor-within v i l)
+      (omega (arith, abs-add (generationToLoad c (i + 1)) (parallel c (i + 1)), generation-to-load-small k, parallel-within v k)))
+
+  pub carried-sum-small : (class : ℕ) → natAbs (carriedSum c class) ≤ 83200000000000000
+  unfolding carriedSum
+  carried-sum-small class = sum-within (carriedTerm c class) 10400000000000000 (carried-term-small class) (v .pars-most)
+
+  pub carried-small : (class : ℕ) → natAbs (carried c class) ≤ 8320000000000
+  unfolding carried
+  carried-small class = quotient-share (carriedSum c class) (pos 10000) 8320000000000 (record { lt = tt }) (carried-sum-small class)
+
+  pub redirect-small : (class : ℕ) → natAbs (redirect c class) ≤ 8640000000000
+  unfolding redirect
+  redirect-small class = omega (arith, abs-sub (carried c class) (control c class), carried-small class, control-within v class)
+
+  pub non-common-redirect-small : natAbs (nonCommonRedirect c) ≤ 8640000000000
+  unfolding nonCommonRedirect
+  non-common-redirect-small = by (nyisoMonitors c)
+    where
+      by : (b : Bool) → natAbs (cond b (pos 0) (redirect c noncommon)) ≤ 8640000000000
+      by true = omega arith
+      by false = redirect-small noncommon
+
+  pub market-flow-small : natAbs (marketFlow c) ≤ 18960000000000
+  unfolding marketFlow
+  market-flow-small =
+      let k : 0 ≤ length (c .pars) = omega arith in
+      parts-small (generationToLoad c 0) (parallel c 0) (shadow c 0) (redirect c common) (nonCommonRedirect c)
+      (generation-to-load-small k) (parallel-within v k) (shadow-within v k) (redirect-small common) non-common-redirect-small

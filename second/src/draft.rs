@@ -1,0 +1,88 @@
+//! Records as bytes, sound or faulty: every value that fits a field can be written.
+
+use crate::names::Name;
+use crate::sheet::{FACTOR, HEAD, PAR, POINT, UNIT, ZONE};
+
+/// The name filled to 16 bytes; what is longer is cut.
+pub fn name(text: &[u8]) -> Name {
+    let mut name = [0; 16];
+    for (to, from) in name.iter_mut().zip(text) {
+        *to = *from;
+    }
+    name
+}
+
+fn record(kind: u8, fields: &[&[u8]]) -> Vec<u8> {
+    let mut record = vec![kind];
+    for field in fields {
+        record.extend_from_slice(field);
+    }
+    record
+}
+
+/// The prices are the Monitoring and the Non-Monitoring one.
+pub fn head(name: Name, monitoring: u8, seconds: u16, prices: [u32; 2]) -> Vec<u8> {
+    let [own, other] = prices.map(u32::to_be_bytes);
+    record(
+        HEAD,
+        &[&name, &[monitoring], &seconds.to_be_bytes(), &own, &other],
+    )
+}
+
+pub fn zone(name: Name, load: u32, losses: u32) -> Vec<u8> {
+    record(ZONE, &[&name, &load.to_be_bytes(), &losses.to_be_bytes()])
+}
+
+pub fn unit(name: Name, zone: u8, output: u32) -> Vec<u8> {
+    record(UNIT, &[&name, &[zone], &output.to_be_bytes()])
+}
+
+/// Place 0 is a proxy.
+pub fn point(name: Name, class: u8, place: u8, import: u32, export: u32) -> Vec<u8> {
+    let (import, export) = (import.to_be_bytes(), export.to_be_bytes());
+    record(POINT, &[&name, &[class, place], &import, &export])
+}
+
+pub fn par(name: Name, class: u8, actual: i32, target: i32) -> Vec<u8> {
+    let (actual, target) = (actual.to_be_bytes(), target.to_be_bytes());
+    record(PAR, &[&name, &[class], &actual, &target])
+}
+
+pub fn factor(target: u8, subject: u8, index: u16, factor: i16) -> Vec<u8> {
+    let (index, factor) = (index.to_be_bytes(), factor.to_be_bytes());
+    record(FACTOR, &[&[target, subject], &index, &factor])
+}
+
+pub fn entitlement(name: Name, value: i32) -> Vec<u8> {
+    record(0x10, &[&name, &value.to_be_bytes()])
+}
+
+/// Sheet S of document 01, record by record.
+pub fn sheet_s() -> Vec<Vec<u8>> {
+    let named = |text: &str| name(text.as_bytes());
+    let mut records = vec![
+        head(named("A\\B"), 2, 300, [5000, 2000]),
+        zone(named("Z1"), 900, 100),
+        zone(named("Z2"), 1950, 50),
+        unit(named("U1"), 1, 1200),
+        unit(named("U2"), 2, 2000),
+        point(named("P1"), 2, 2, 500, 0),
+        point(named("P2"), 1, 0, 300, 200),
+        par(named("T1"), 1, 400, 380),
+    ];
+    let due = [(1, 1), (1, 2), (2, 1), (2, 2), (3, 1), (3, 2), (4, 1)];
+    let flowgate = [3000, -1000, 500, -200, 1000, 400, 2500];
+    let par = [1000, 0, 0, 0, 2000, 0];
+    for ((subject, index), value) in due.into_iter().zip(flowgate) {
+        records.push(factor(0, subject, index, value));
+    }
+    for ((subject, index), value) in due.into_iter().zip(par) {
+        records.push(factor(1, subject, index, value));
+    }
+    records
+}
+
+/// The entitlement list that goes with sheet S.
+pub fn list_s() -> Vec<u8> {
+    entitlement(name(b"A\\B"), 100)
+}

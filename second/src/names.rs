@@ -1,0 +1,114 @@
+//! Names of flowgates, zones, units, points and PARs.
+
+use std::collections::HashSet;
+use std::hash::{BuildHasherDefault, Hasher};
+
+/// 1 to 16 non-zero bytes, filled with zero bytes on the right.
+pub type Name = [u8; 16];
+
+/// Row 6 is met where this is false.
+pub fn well_formed(name: &Name) -> bool {
+    let length = bearing(name).len();
+    length > 0 && name[length..].iter().all(|byte| *byte == 0)
+}
+
+/// The name without its filling.
+pub fn bearing(name: &Name) -> &[u8] {
+    let length = name.iter().position(|byte| *byte == 0).unwrap_or(16);
+    &name[..length]
+}
+
+/// Up to this many names, looking through them all beats hashing.
+const FEW: usize = 16;
+
+/// The names met so far in one kind of record.
+pub struct NamesSeen {
+    few: [u128; FEW],
+    count: usize,
+    /// All names as soon as they are more than a few.
+    many: HashSet<u128, BuildHasherDefault<NameHasher>>,
+    most: usize,
+}
+
+impl NamesSeen {
+    /// None yet, at most so many to come.
+    pub fn expecting(most: usize) -> Self {
+        NamesSeen {
+            few: [0; FEW],
+            count: 0,
+            many: HashSet::default(),
+            most,
+        }
+    }
+
+    /// Notes the name; false if it was noted before.
+    pub fn note(&mut self, name: &Name) -> bool {
+        let name = u128::from_be_bytes(*name);
+        if self.count == FEW && self.many.is_empty() {
+            self.many.reserve(self.most);
+            self.many.extend(self.few);
+        }
+        let is_new = if self.count < FEW {
+            let is_new = !self.few[..self.count].contains(&name);
+            self.few[self.count] = name;
+            is_new
+        } else {
+            self.many.insert(name)
+        };
+        self.count += usize::from(is_new);
+        is_new
+    }
+
+    pub fn clear(&mut self) {
+        self.count = 0;
+        self.many.clear();
+    }
+}
+
+/// Names are at most 2,500, so that even names chosen to collide cost little; the
+/// standard hasher's safety from them is not worth its time here.
+#[derive(Default)]
+struct NameHasher(u64);
+
+impl Hasher for NameHasher {
+    fn finish(&self) -> u64 {
+        self.0
+    }
+
+    fn write(&mut self, bytes: &[u8]) {
+        for byte in bytes {
+            self.write_u128(u128::from(*byte));
+        }
+    }
+
+    fn write_u128(&mut self, name: u128) {
+        let folded = (name as u64) ^ ((name >> 64) as u64).rotate_left(29) ^ self.0;
+        let mixed = folded.wrapping_mul(0x9e37_79b9_7f4a_7c15);
+        self.0 = mixed ^ (mixed >> 32);
+    }
+}
+
+#[cfg(test)]
+mod tests {
+    use super::*;
+
+    #[test]
+    fn every_byte_but_zero_may_stand_in_a_name() {
+        assert!(well_formed(b"A\\\"\xff\n\0\0\0\0\0\0\0\0\0\0\0"));
+        assert!(well_formed(&[1; 16]));
+        assert!(!well_formed(&[0; 16]));
+        assert!(!well_formed(b"\0A\0\0\0\0\0\0\0\0\0\0\0\0\0\0"));
+        assert!(!well_formed(b"A\0B\0\0\0\0\0\0\0\0\0\0\0\0\0"));
+        assert!(!well_formed(b"A\0\0\0\0\0\0\0\0\0\0\0\0\0\0B"));
+    }
+
+    #[test]
+    fn repeats_are_found_among_few_and_among_many() {
+        let mut seen = NamesSeen::expecting(200);
+        let name = |k: u8| [k; 16];
+        assert!((1..=200).all(|k| seen.note(&name(k))));
+        assert!((1..=200).all(|k| !seen.note(&name(k))));
+        seen.clear();
+        assert!(seen.note(&name(7)));
+    }
+}

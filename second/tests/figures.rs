@@ -1,0 +1,196 @@
+//! The figures that document 01 gives to hold against it.
+
+mod common;
+
+use common::Small;
+use second::draft;
+use second::exact::{self, Rounded, RoundedTarget};
+use second::flow::rounded_quotient;
+use second::fraction::Fraction;
+use second::payment::payment;
+use second::sheet::{read, Head, Rto};
+use second::{listing, settle, settle_into, Statement};
+
+const LISTING_S: &str = "flowgate 415c42
+gtl 12600000 0 0
+parallel 5000000
+shadow 400000
+common 4812500
+noncommon 0
+market 13187500
+entitlement 10000000
+price 5000
+amount 1328125
+NYISO -1328125
+PJM 1328125
+";
+
+fn settled(small: &Small, value: i32) -> Statement {
+    let list = draft::entitlement(draft::name(b"F"), value);
+    settle(&small.bytes(), &list)
+}
+
+fn amount(difference: i64, price: i64, seconds: i64) -> i64 {
+    let head = Head {
+        name: &[b'F'; 16],
+        monitoring: Rto::Pjm,
+        seconds,
+        monitoring_price: price,
+        non_monitoring_price: price,
+    };
+    payment(&head, difference).amount
+}
+
+#[test]
+fn sheet_s_prints_its_listing() {
+    let sheet = draft::sheet_s().concat();
+    let statement = settle(&sheet, &draft::list_s());
+    assert_eq!(listing(&statement), LISTING_S.as_bytes());
+    let mut out = [0x5a; 400];
+    assert_eq!(settle_into(&sheet, &draft::list_s(), &mut out), statement);
+    let (front, rest) = out.split_at(LISTING_S.len());
+    assert_eq!(front, LISTING_S.as_bytes());
+    assert!(rest.iter().all(|byte| *byte == 0x5a));
+}
+
+#[test]
+fn a_short_buffer_is_refused_unchanged() {
+    let (sheet, list) = (draft::sheet_s().concat(), draft::list_s());
+    for length in 0..LISTING_S.len() {
+        let mut out = vec![0x5a; length];
+        let statement = settle_into(&sheet, &list, &mut out);
+        let refused = Statement {
+            refusal: 23,
+            ..Statement::default()
+        };
+        assert_eq!(statement, refused);
+        assert!(out.iter().all(|byte| *byte == 0x5a));
+    }
+    let mut out = vec![0x5a; LISTING_S.len()];
+    assert_eq!(settle_into(&sheet, &list, &mut out).refusal, 0);
+}
+
+#[test]
+fn halves_are_rounded_away_from_zero() {
+    assert_eq!(rounded_quotient(5, 2), (3, -1));
+    assert_eq!(rounded_quotient(-5, 2), (-3, 1));
+    assert_eq!(rounded_quotient(-1, 3), (0, -1));
+    assert_eq!(rounded_quotient(0, 1), (0, 0));
+    assert_eq!(rounded_quotient(i64::MAX, 1), (i64::MAX, 0));
+    assert_eq!(rounded_quotient(-2, 3), (-1, 1));
+}
+
+#[test]
+fn flow_of_seven_is_not_exact() {
+    let small = Small {
+        zone_loads: vec![(1, 1), (2, 0)],
+        output: (1, 1),
+        points: vec![],
+    };
+    let statement = settled(&small, 0);
+    let figures = (
+        statement.gtl,
+        statement.first_remainder,
+        statement.second_remainder,
+    );
+    assert_eq!(figures, (7, 1, 0));
+    let bytes = small.bytes();
+    let sheet = read(&bytes).unwrap();
+    assert_eq!(exact::generation_to_load(&sheet, 0), Fraction::of(20, 3));
+}
+
+#[test]
+fn flow_of_minus_ten_is_exact_with_remainders() {
+    let small = Small {
+        zone_loads: vec![(1, 1), (3, 0)],
+        output: (5, 0),
+        points: vec![(1, 0, 0, 1, 0)],
+    };
+    let statement = settled(&small, 0);
+    let figures = (
+        statement.gtl,
+        statement.first_remainder,
+        statement.second_remainder,
+    );
+    assert_eq!(figures, (-10, -2, -2));
+    let bytes = small.bytes();
+    let sheet = read(&bytes).unwrap();
+    assert_eq!(exact::generation_to_load(&sheet, 0), Fraction::whole(-10));
+}
+
+#[test]
+fn amounts_are_rounded_once() {
+    assert_eq!(amount(1, 400_000, 900), 100);
+    assert_eq!(amount(-1, 100_000, 900), -25);
+    assert_eq!(amount(1, 6000, 300), 1);
+    assert_eq!(amount(-1, 6000, 300), -1);
+    assert_eq!(amount(20_000_000_000, 400_000, 900), 2_000_000_000_000);
+}
+
+#[test]
+fn at_the_entitlement_the_price_is_zero() {
+    let small = Small {
+        zone_loads: vec![(1000, 0)],
+        output: (1, 0),
+        points: vec![(2, 0, 100, 0, 10_000)],
+    };
+    let statement = settled(&small, 100);
+    assert_eq!(statement.market, 10_000_000);
+    assert_eq!((statement.price, statement.amount), (0, 0));
+    assert_eq!(settled(&small, 99).price, 5000);
+    assert_eq!(settled(&small, 101).price, 2000);
+}
+
+#[test]
+fn final_load_must_be_above_zero() {
+    let with_import = |import| Small {
+        zone_loads: vec![(10, 0)],
+        output: (1, 0),
+        points: vec![(1, 0, import, 0, 0)],
+    };
+    assert_eq!(settled(&with_import(9), 0).refusal, 0);
+    assert_eq!(settled(&with_import(10), 0).refusal, 18);
+}
+
+#[test]
+fn final_generation_may_be_zero() {
+    let with_export = |export| Small {
+        zone_loads: vec![(3, 1)],
+        output: (10, 7),
+        points: vec![(1, 0, 0, export, 0)],
+    };
+    let statement = settled(&with_export(10), 0);
+    assert_eq!((statement.refusal, statement.gtl), (0, 0));
+    assert_eq!(statement.second_remainder, 0);
+    assert_eq!(settled(&with_export(11), 0).refusal, 21);
+}
+
+#[test]
+fn accuracy_is_judged_by_exact_figures() {
+    let bytes = draft::sheet_s().concat();
+    let sheet = read(&bytes).unwrap();
+    let target = RoundedTarget {
+        target: 0,
+        flow: 12_600_000,
+        first_remainder: 0,
+        second_remainder: 0,
+    };
+    let sound = Rounded {
+        targets: vec![target],
+        market: 13_187_500,
+        amount: 1_328_125,
+    };
+    assert_eq!(exact::judge(&sheet, 100, &sound), Ok(()));
+    let verdict = |change: &dyn Fn(&mut Rounded)| {
+        let mut rounded = sound.clone();
+        change(&mut rounded);
+        exact::judge(&sheet, 100, &rounded)
+    };
+    assert!(verdict(&|r| r.market += 3).is_ok());
+    assert!(verdict(&|r| r.market += 4).is_err());
+    // Three watts of bound at 5000 and 300 s are 1.25, and a half for the amount.
+    assert!(verdict(&|r| r.amount += 1).is_ok());
+    assert!(verdict(&|r| r.amount += 2).is_err());
+    assert!(verdict(&|r| r.targets[0].flow += 1).is_err());
+    assert!(verdict(&|r| r.targets[0].first_remainder = 1).is_err());
+}
