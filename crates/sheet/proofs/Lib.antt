@@ -5,3 +5,6 @@ pub mod Told
 pub mod Each
 pub mod Factors
 pub mod Accepted
+pub mod Long
+pub mod Refusal
+pub mod Named
