@@ -14,7 +14,7 @@ row-requires-2 c κs = search needs
 
 returns : tie.Need-returns
 unfolding endRow
-returns c = cc
+returns c = rw (c .row2 .ensures, c .before .row .ensures, c .before .before .before .due-count .ensures)
 
 pub end-row-spec : {M : Type 1} → statement M
 end-row-spec = tie.close (tie.spec due-count-requires row-requires row-requires-2 returns)

@@ -47,8 +47,8 @@ repeated-requires c κs =
 body-length-requires : tie.Need-body-length-requires
 body-length-requires c κs = search needs
 
-add-body-row : tie.Need-add-body-row
-add-body-row c = omega (arith, passes (c .before .before) .fits)
+add-to : tie.Need-add-to
+add-to c = omega (arith, passes (c .before .before) .fits)
 
 sub-body-row : tie.Need-sub-body-row
 sub-body-row c = search needs
@@ -91,7 +91,7 @@ record-row-spec =
     returns
     repeated-requires
     body-length-requires
-    add-body-row
+    add-to
     sub-body-row
     part-body-row-start
     part-body-row-end
