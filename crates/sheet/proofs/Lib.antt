@@ -5,3 +5,4 @@ pub mod Told
 pub mod Each
 pub mod Factors
 pub mod Accepted
+pub mod Refusals

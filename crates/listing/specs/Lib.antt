@@ -1,0 +1,5 @@
+pub mod Text
+pub mod Written
+pub mod Listing
+pub mod Parts
+pub mod Ranges
