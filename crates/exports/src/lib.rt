@@ -5,7 +5,6 @@ ghost use Rattle.entitlements.specs.Entitlements.{entitlement};
 ghost use Rattle.settlement.specs.Promise.{Promise};
 ghost use Rattle.report.specs.Report.{reported, left};
 ghost use Rattle.exports.specs.Answers.{readAnswer, entitlementAnswer};
-
 use statement::Statement;
 
 // What the reader answers: 0 and the counts of an accepted sheet's records, or a refusal's number and the offending record's place.
@@ -78,9 +77,6 @@ pub extern "C" fn m2m_entitlement(list: &[u8], name: &[u8]) -> EntitlementAnswer
             refusal: row,
             value: 0,
         },
-        entitlements::Entitlement::Found(value) => EntitlementAnswer {
-            refusal: 0,
-            value,
-        },
+        entitlements::Entitlement::Found(value) => EntitlementAnswer { refusal: 0, value },
     }
 }

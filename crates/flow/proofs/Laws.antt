@@ -108,10 +108,10 @@ module _ {s : List ℕ} {l : Layout} {b : Balance} {plus minus : List ℕ} (r : 
     unfolding secondRemainder
     second-within = remainder-within _ _ (net-generation-above _ no-row) (net-generation-small is-valid no-row)
 
-    pub first-num : (x : GenerationToLoad) → x ≡ gtlOf (contentOf s) target → Num (rd (x .«first_remainder»)) (firstRemainder (contentOf s) target) 2000000
+    first-num : (x : GenerationToLoad) → x ≡ gtlOf (contentOf s) target → Num (rd (x .«first_remainder»)) (firstRemainder (contentOf s) target) 2000000
     first-num x e = num-is _ _ 2000000 (ap (λ (y : GenerationToLoad). y .«first_remainder») e) first-within (lit< tt)
 
-    pub second-num : (x : GenerationToLoad) → x ≡ gtlOf (contentOf s) target → Num (rd (x .«second_remainder»)) (secondRemainder (contentOf s) target) 2000000
+    second-num : (x : GenerationToLoad) → x ≡ gtlOf (contentOf s) target → Num (rd (x .«second_remainder»)) (secondRemainder (contentOf s) target) 2000000
     second-num x e = num-is _ _ 2000000 (ap (λ (y : GenerationToLoad). y .«second_remainder») e) second-within (lit< tt)
 
     -- B, as its quotient returns it

@@ -3,7 +3,6 @@ ghost use mathlib.Core.Path.{_≡_};
 ghost use Rattle.io.specs.Counts.{Counts};
 ghost use Rattle.settlement.specs.Promise.{Promise};
 ghost use Rattle.report.specs.Report.{reported, left};
-
 use listing::Printed;
 
 // The statement with the listing's length, and the listing at the front of the output buffer. On a refusal the buffer stays as before.

@@ -92,6 +92,7 @@ module _ (sheet list : List ℕ) where
       by-list : Valid c → (f : Entitlement) → byList c f .nyiso +ℤ byList c f .pjm ≡ pos 0
       by-list v (found.Found e) = unless-adds (balanceRow c) (afterBalance c e) (unless-adds (flowRow c e) (figuresAt c e) (payments-add c v e))
       by-list v (found.Refused row) = refl
+
       by-sheet : (o : Outcome) → readSheet sheet ≡ o → bySheet c list o .nyiso +ℤ bySheet c list o .pjm ≡ pos 0
       by-sheet (outcome.Accepted l) p = by-list (valid sheet l p) (entitlement list (flowgate c))
       by-sheet (outcome.Refused row place) p = refl

@@ -20,21 +20,22 @@ use Rattle.statement.specs.Statement.{refusedAs}
 -- the figures of the flowgate, target 0, at an entitlement in tenths of a MW. The RTOs are 1 NYISO, 2 PJM
 unfoldable pub figuresAt : Content → ℤ → Statement
 figuresAt c e = record {
-    refusal = 0;
-    name = head c .name;
-    gtl = generationToLoad c 0;
-    «first_remainder» = firstRemainder c 0;
-    «second_remainder» = secondRemainder c 0;
-    parallel = parallel c 0;
-    shadow = shadow c 0;
-    common = redirect c common;
-    noncommon = nonCommonRedirect c;
-    market = marketFlow c;
-    entitlement = inWatts e;
-    price = priceTaken c e;
-    amount = amount c e;
-    nyiso = payment c e 1;
-    pjm = payment c e 2 }
+  refusal = 0;
+  name = head c .name;
+  gtl = generationToLoad c 0;
+  «first_remainder» = firstRemainder c 0;
+  «second_remainder» = secondRemainder c 0;
+  parallel = parallel c 0;
+  shadow = shadow c 0;
+  common = redirect c common;
+  noncommon = nonCommonRedirect c;
+  market = marketFlow c;
+  entitlement = inWatts e;
+  price = priceTaken c e;
+  amount = amount c e;
+  nyiso = payment c e 1;
+  pjm = payment c e 2;
+}
 
 -- a stage answers the row that it met, or 0 and then what comes behind it
 abbrev pub unlessMet : ℕ → Statement → Statement

@@ -9,7 +9,6 @@ ghost use Rattle.flow.specs.Flow.{Ready};
 ghost use Rattle.settlement.specs.Settled.{afterBalance, afterList, afterSheet};
 ghost use Rattle.settlement.specs.Parts.{statementOf};
 ghost use Rattle.settlement.specs.Promise.{Promise};
-
 use records::Head;
 use statement::Statement;
 
@@ -37,7 +36,14 @@ fn statement_of(h: Head, f: flow::Flow, p: payment::Payment) -> Statement
 }
 
 // The flow, and the payment on it. Row 22 is decided before anything is paid.
-fn settle_flow<'a>(s: &[u8], l: layout::Layout, b: balance::Balance, plus: &'a [u64; 33], minus: &'a [u64; 33], e: i64) -> Statement
+fn settle_flow<'a>(
+    s: &[u8],
+    l: layout::Layout,
+    b: balance::Balance,
+    plus: &'a [u64; 33],
+    minus: &'a [u64; 33],
+    e: i64,
+) -> Statement
     requires { ⌜ Ready (now s) l b (now plus) (now minus) × (natAbs e ≤ 100000) ⌝ }
     ensures { λ r. ⌜ r ≡ afterBalance (contentOf (now (s .entry))) e ⌝ }
 {

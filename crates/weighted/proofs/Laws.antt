@@ -22,7 +22,8 @@ use Rattle.sheet.specs.Sheet.{readSheet, contentOf}
 use Rattle.sheet.proofs.Accepted.{valid, counts}
 use Rattle.figures.specs.Balance.{zoneLoad, output}
 use Rattle.figures.specs.Flow.{unitFactor, zoneFactor, pointFactor, parFactor, outputTerm, weightedOutput, loadTerm, weightedLoad, netSchedule, scheduleTerm, scheduleFlow, controlTerm, control}
-use Rattle.figures.proofs.Ranges.{cond-within, times-within, output-within, zone-load-within}
+use Rattle.figures.proofs.Numbers.{cond-within, times-within}
+use Rattle.figures.proofs.Ranges.{output-within, zone-load-within}
 use Rattle.weighted.specs.Weighted.{OnTarget, gapIn, powerOf, weightedTerm, members, weightedSum}
 
 -- the class is asked before or after the factor
@@ -49,7 +50,7 @@ pub control-is : (c : Content) (class : ℕ) → weightedSum c 4 class 0 ≡ con
 unfolding weightedSum members howMany weightedTerm powerOf gapIn control controlTerm parFactor
 control-is c class = sum-same _ _ (length (c .pars)) (λ i l. gap-times (eqb (par c i .class) class) (par c i .actual -ℤ par c i .target) (factorFor (c .factors) 0 4 (i + 1)))
 
-pub gap-within : (of class : ℕ) (x y : ℤ) → natAbs x ≤ 200000 → natAbs y ≤ 200000 → natAbs (gapIn of class x y) ≤ 4000000
+gap-within : (of class : ℕ) (x y : ℤ) → natAbs x ≤ 200000 → natAbs y ≤ 200000 → natAbs (gapIn of class x y) ≤ 4000000
 unfolding gapIn
 gap-within of class x y h k = cond-within (eqb of class) ((x -ℤ y) *ℤ pos 10) (times-within (x -ℤ y) (pos 10) {a = 400000} (omega (arith, abs-sub x y)) (le-refl 10))
 

@@ -39,12 +39,14 @@ settle-flow-requires c κs =
     let y = b .before .before .before in
     let x = y .before in
     let s = x .before .before in
-    let e = s .pre .0 in
-    (record {
-      given = record { accepted = e; loads = zone-loads _ (valid _ _ e) _ _ (x .by-zone .ensures) (y .by-zone2 .ensures) };
-      balance = b .balance-of .ensures;
-      passed = q .if1 .left },
-      rw (toZ-ofZ (s .fits .e)) (s .pre .1))
+    let e = s .pre .0 in (
+      record {
+        given = record { accepted = e; loads = zone-loads _ (valid _ _ e) _ _ (x .by-zone .ensures) (y .by-zone2 .ensures) };
+        balance = b .balance-of .ensures;
+        passed = q .if1 .left;
+      },
+      rw (toZ-ofZ (s .fits .e)) (s .pre .1),
+    )
 
 returns-2 : tie.Need-returns-2
 returns-2 c =
