@@ -3,9 +3,9 @@ use mathlib.Core.Path.{_≡_}
 use mathlib.Core.List.{[], _∷_, _++_}
 use lib.IntN.{pos, negsuc}
 use Rattle.statement.specs.declared.Statement.{Statement}
+use Rattle.writers.specs.Text.{ascii, digits, decimal, unfilled, hexadecimal}
+use Rattle.writers.proofs.Decimal.{natural-computed}
 use Rattle.listing.specs.Listing.{line, listing}
-use Rattle.listing.specs.Text.{ascii, digits, decimal, unfilled, hexadecimal}
-use Rattle.listing.proofs.Decimal.{natural-computed}
 
 unfoldable pub statementS : Statement
 statementS =

@@ -9,10 +9,11 @@ use lib.IntN.{ℤ, pos, negsuc, natAbs, negℤ}
 use lib.ListN.{length, length-append}
 use lib.Signed.{_≤ℤ_}
 use Rattle.statement.specs.declared.Statement.{Statement}
-use Rattle.listing.specs.Listing.{line, listing}
+use Rattle.writers.specs.Text.{ascii, decimal, unfilled, hexadecimal}
+use Rattle.writers.proofs.Decimal.{natural-length}
+use Rattle.listing.specs.Listing.{line, listing, checked}
 use Rattle.listing.specs.Ranges.{Ranged}
-use Rattle.listing.specs.Text.{ascii, natural, decimal, unfilled, hexadecimal}
-use Rattle.listing.proofs.Decimal.{natural-length}
+use Rattle.listing.proofs.Printing.{kept}
 
 -- k + 1 digits and a minus
 decimal-length : (k : ℕ) (z : ℤ) → natAbs z < 10 ^ suc k → length (decimal z) ≤ suc k + 1
@@ -79,8 +80,12 @@ module _ (s : Statement) where
         decimal-length 12 (s .noncommon) (h .noncommon),
         decimal-length 10 (s .market) (h .market),
         decimal-length 10 (s .entitlement) (h .entitlement),
-        unsigned-length 5 (s .price) (h .charged) (h .price),
+        unsigned-length 5 (s .price) (h .unsigned) (h .price),
         decimal-length 12 (s .amount) (h .amount),
         opposite-length 12 (s .nyiso) (h .nyiso),
         ap (λ (z : ℤ). length (decimal z)) (h .pjm),
       )
+
+  -- so a buffer of 288 bytes is never too short
+  pub never-short : Ranged s → (out : List ℕ) → 288 ≤ length out → checked s out ≡ s
+  never-short h out room = kept s out (omega (arith, longest h))

@@ -1,16 +1,17 @@
 -- The three ends of printing: refused before, refused by row 23, and printed. Assumes nothing.
 use mathlib.Core.Path.{_≡_, refl}
-use mathlib.Core.List.{List, []}
+use mathlib.Core.Bool.{and-false}
+use mathlib.Core.List.{List}
 use Prim.Native.Nat.{ℕ, _≤_, _<_}
 use borrow.Author.Tests.{eq-eqb, ne-eqb, lt-ltb, le-ltb}
 use lib.ListN.{length}
+use Rattle.io.specs.Counts.{Counts}
 use Rattle.statement.specs.declared.Statement.{Statement}
 use Rattle.statement.specs.Statement.{refusedAs}
-use Rattle.io.specs.Counts.{Counts}
+use Rattle.writers.specs.Written.{Wrote}
+use Rattle.writers.proofs.Writing.{none, counted}
 use Rattle.listing.specs.declared.Printed.{Printed}
 use Rattle.listing.specs.Listing.{listing, checked, text, printed, buffer}
-use Rattle.listing.specs.Written.{Wrote}
-use Rattle.listing.proofs.Writing.{none, counted}
 
 module _ (s : Statement) (out : List ℕ) where
   -- t and n are what printing returns, and `new` is the buffer that it leaves
@@ -31,9 +32,11 @@ module _ (s : Statement) (out : List ℕ) where
       let f = lt-ltb _ _ room in
       ended (rw (e, f) refl) (rw (e, f) refl) none
 
+  -- row 23 is not met where the buffer has room
+  pub kept : length (listing s) ≤ length out → checked s out ≡ s
+  unfolding checked
+  kept room = rw (le-ltb _ _ room, and-false) refl
+
   pub fits : {new : List ℕ} {n : ℕ} → s .refusal ≡ 0 → length (listing s) ≤ length out → Wrote (listing s) out new n → Ended s n new
-  unfolding checked text
-  fits h room w =
-      let e = eq-eqb (s .refusal) 0 h in
-      let f = le-ltb _ _ room in
-      ended (rw (e, f) refl) (rw (e, f) (rw e refl)) w
+  unfolding text
+  fits h room w = ended (kept room) (rw (kept room, eq-eqb (s .refusal) 0 h) refl) w

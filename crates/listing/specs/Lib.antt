@@ -1,5 +1,3 @@
-pub mod Text
-pub mod Written
 pub mod Listing
 pub mod Parts
 pub mod Ranges

@@ -1,14 +1,14 @@
 -- The printed statement (document 01, 'The printed statement' and row 23). Assumes nothing.
-use Prim.Native.Nat.{ℕ}
 use mathlib.Core.Bool.{cond, _&&_}
 use mathlib.Core.List.{List, [], _++_}
+use Prim.Native.Nat.{ℕ}
 use lib.Dec.{eqb, ltb}
 use lib.IntN.{ℤ, pos}
 use lib.ListN.{length}
 use Rattle.statement.specs.declared.Statement.{Statement}
 use Rattle.statement.specs.Statement.{refusedAs}
-use Rattle.listing.specs.Text.{ascii, decimal, unfilled, hexadecimal}
-use Rattle.listing.specs.Written.{written}
+use Rattle.writers.specs.Text.{ascii, decimal, unfilled, hexadecimal}
+use Rattle.writers.specs.Written.{written}
 use Rattle.listing.specs.declared.Printed.{Printed}
 
 -- a label and a number, ended by one line feed

@@ -1,9 +1,9 @@
 -- The listing in the parts that are written one behind the other. Assumes nothing.
-use Prim.Native.Nat.{ℕ}
 use mathlib.Core.List.{List, _++_}
+use Prim.Native.Nat.{ℕ}
 use lib.IntN.{ℤ}
 use Rattle.statement.specs.declared.Statement.{Statement}
-use Rattle.listing.specs.Text.{ascii, decimal, unfilled, hexadecimal}
+use Rattle.writers.specs.Text.{ascii, decimal, unfilled, hexadecimal}
 use Rattle.listing.specs.Listing.{line}
 
 -- a label and a number

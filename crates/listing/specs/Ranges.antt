@@ -1,12 +1,12 @@
--- How large the figures of a settled statement are at most. Assumes nothing.
+-- How large a settlement's figures are at most, by the ranges of what sheet and list hold. Assumes nothing.
 use mathlib.Core.Path.{_≡_}
-use Prim.Native.Nat.{ℕ, _<_, _^_}
+use Prim.Native.Nat.{_<_, _^_}
 use lib.IntN.{pos, natAbs, negℤ}
 use lib.ListN.{length}
 use lib.Signed.{_≤ℤ_}
 use Rattle.statement.specs.declared.Statement.{Statement}
 
--- a name of 16 bytes, and the number of digits of each figure; one payment is the other's negative
+-- a name of 16 bytes; at most so many digits a figure; a price is not negative, and one payment is the other's negative
 pub record Ranged (s : Statement) : Type 0 where
   pub name : length (s .name) ≡ 16
   pub gtl : natAbs (s .gtl) < 10 ^ 12
@@ -19,7 +19,7 @@ pub record Ranged (s : Statement) : Type 0 where
   pub market : natAbs (s .market) < 10 ^ 11
   pub entitlement : natAbs (s .entitlement) < 10 ^ 11
   pub price : natAbs (s .price) < 10 ^ 6
-  pub charged : pos 0 ≤ℤ s .price
+  pub unsigned : pos 0 ≤ℤ s .price
   pub amount : natAbs (s .amount) < 10 ^ 13
   pub nyiso : natAbs (s .nyiso) < 10 ^ 13
   pub pjm : s .pjm ≡ negℤ (s .nyiso)

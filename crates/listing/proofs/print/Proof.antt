@@ -1,15 +1,14 @@
 -- `print` ends in one of three ways. The scratch array begins with the listing. Assumes nothing.
 use mathlib.Core.List.{List}
-use mathlib.Core.Path.{_≡_, sym}
+use mathlib.Core.Path.{_≡_, ap}
 use Prim.Native.Nat.{ℕ}
 use native.Mathlib.Omega.{arith}
 use borrow.Author.Needs.{needs}
-use lib.ListN.{take}
-use lib.Seq.{length-take-le}
+use lib.ListN.{length, take}
 use Rattle.statement.specs.declared.Statement.{Statement}
+use Rattle.writers.proofs.Writing.{counted, front, renamed}
 use Rattle.listing.specs.Listing.{listing}
 use Rattle.listing.proofs.Printing.{refused-before, too-short, fits}
-use Rattle.listing.proofs.Writing.{front}
 use Rattle.listing.proofs.print.Statement.{statement}
 use Rattle.listing.proofs.print.Tie as tie
 
@@ -48,13 +47,13 @@ array-share-prefix-scratch : tie.Need-array-share-prefix-scratch
 array-share-prefix-scratch c = search needs
 
 slice-aggregate-put : tie.Need-slice-aggregate-put
-slice-aggregate-put c = sym (length-take-le _ _ (omega arith))
+slice-aggregate-put c = counted (c .before .before .before .put-listing .ensures .0) .1
 
 put-requires : tie.Need-put-requires
 put-requires c κs =
     let p = c .before .before .before .before in
     let e = p .put-listing .ensures .0 .count in
-    rw (lines p) (omega arith)
+    omega (arith, ap length (lines p))
 
 same-length : tie.Need-same-length
 same-length c = search needs
@@ -63,7 +62,7 @@ returns-3 : tie.Need-returns-3
 returns-3 c =
     let p = c .before .before .before .before .before .before .before in
     let e = p .put-listing .ensures .0 .count in
-    fits (s p) (out p) (accepted p) (omega arith) (rw (lines p) at (c .before .before .put .ensures))
+    fits (s p) (out p) (accepted p) (omega arith) (renamed (lines p) (c .before .before .put .ensures))
 
 pub print-spec : {M : Type 1} → statement M
 print-spec =

@@ -3,9 +3,9 @@ use native.Mathlib.Omega.{arith}
 use borrow.Author.Needs.{needs}
 use mir.Syntax.{w64}
 use mir.ValLaws.{toZ-pos}
+use Rattle.writers.specs.Text.{ascii}
+use Rattle.writers.proofs.Writing.{counted}
 use Rattle.listing.specs.Listing.{refusalLine}
-use Rattle.listing.specs.Text.{ascii}
-use Rattle.listing.proofs.Writing.{counted}
 use Rattle.listing.proofs.refusal_line.Statement.{statement}
 use Rattle.listing.proofs.refusal_line.Tie as tie
 
