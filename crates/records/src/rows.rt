@@ -4,7 +4,7 @@ ghost use mathlib.Core.Bool.{not};
 ghost use Prim.Native.Nat.{_≤_};
 ghost use Rattle.due.specs.Due.{dueList};
 ghost use Rattle.records.specs.Content.{bears};
-ghost use Rattle.records.specs.Rows.{row, outside, beyond, badName, unlisted, noZoneOf, placeUnknown, headRow, zoneRow, unitRow, pointRow, parRow, factorOutside, factorRow};
+ghost use Rattle.records.specs.Rows.{row, outside, beyond, badName, unlisted, noZoneOf, placeUnknown, headRow, zoneRow, unitRow, pointRow, parRow, factorRow};
 use super::Factor;
 use super::Head;
 use super::Par;
@@ -33,16 +33,16 @@ fn beyond(most: u32, z: i64) -> bool
     (z < -high) | (high < z)
 }
 
-fn wide32(z: i32) -> i64
-    ensures { λ r. ⌜ r ≡ z ⌝ }
+fn power_beyond(z: i32) -> bool
+    ensures { λ r. ⌜ r ≡ beyond 200000 z ⌝ }
 {
-    z as i64
+    beyond(200_000, z as i64)
 }
 
-fn wide16(z: i16) -> i64
-    ensures { λ r. ⌜ r ≡ z ⌝ }
+fn factor_beyond(z: i16) -> bool
+    ensures { λ r. ⌜ r ≡ beyond 10000 z ⌝ }
 {
-    z as i64
+    beyond(10_000, z as i64)
 }
 
 fn unlisted(code: u8) -> bool
@@ -110,15 +110,8 @@ pub fn point_row(zones: usize, repeated: bool, p: Point) -> u8
 pub fn par_row(repeated: bool, p: Par) -> u8
     ensures { λ r. ⌜ r ≡ parRow repeated p ⌝ }
 {
-    let powers = beyond(200_000, wide32(p.actual)) | beyond(200_000, wide32(p.target));
-    let numbers = row(9, powers, 0);
+    let numbers = row(9, power_beyond(p.actual) | power_beyond(p.target), 0);
     name_rows(&p.name, repeated, row(8, unlisted(p.class), numbers))
-}
-
-fn factor_outside(f: Factor) -> bool
-    ensures { λ r. ⌜ r ≡ factorOutside f ⌝ }
-{
-    beyond(10_000, wide16(f.factor))
 }
 
 // Whether the factor is the one for d.
@@ -137,5 +130,5 @@ pub fn factor_row(zones: usize, units: usize, points: usize, pars: usize, n: usi
         return 10;
     }
     let d = due::due_at(zones, units, points, pars, n);
-    row(10, !bears(f, d), row(11, factor_outside(f), 0))
+    row(10, !bears(f, d), row(11, factor_beyond(f.factor), 0))
 }

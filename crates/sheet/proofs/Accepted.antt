@@ -54,7 +54,7 @@ pub record Counts (l : Layout) (c : Content) : Type 0 where
   pub factors : l .factors ≡ length (c .factors)
 
 module _ (s : List ℕ) (l : Layout) (e : readSheet s ≡ Accepted l) where
-  passed : Passed s (length s) (kept s l e .accepts .last) (contentOf s)
+  pub passed : Passed s (length s) (kept s l e .accepts .last) (contentOf s)
   passed = kept s l e .accepts .passed
 
   pub counts : Counts l (contentOf s)
@@ -70,7 +70,7 @@ module _ (s : List ℕ) (l : Layout) (e : readSheet s ≡ Accepted l) where
   pub allowed : Allowed l
   allowed = rw (kept s l e .layout) at (reach-allowed s passed)
 
-  one-head : length (contentOf s .heads) ≡ 1
+  pub one-head : length (contentOf s .heads) ≡ 1
   one-head =
       let f = first-is-head s (kept s l e .first) in
       let n = counts .heads in

@@ -5,4 +5,7 @@ pub mod Told
 pub mod Each
 pub mod Factors
 pub mod Accepted
-pub mod Refusals
+pub mod Long
+pub mod Refusal
+pub mod Named
+pub mod Numbered

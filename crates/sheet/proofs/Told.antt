@@ -61,7 +61,7 @@ pub reading-told : (s : List ℕ) → firstRow s ≡ 0 → Told s (reading s)
 unfolding reading
 reading-told s e = rw e (told s s 0 0 0 noContent refl none)
 
-first-number : (s : List ℕ) → (firstRow s ≡ 0) ⊎ (firstRow s ≡ 1)
+pub first-number : (s : List ℕ) → (firstRow s ≡ 0) ⊎ (firstRow s ≡ 1)
 unfolding firstRow
 first-number [] = inr refl
 first-number (k ∷ r) = pick (eqb k 1)
@@ -70,7 +70,7 @@ first-number (k ∷ r) = pick (eqb k 1)
     pick true = inl refl
     pick false = inr refl
 
-refused-first : (s : List ℕ) → firstRow s ≡ 1 → reading s ≡ fails 1 0
+pub refused-first : (s : List ℕ) → firstRow s ≡ 1 → reading s ≡ fails 1 0
 unfolding reading
 refused-first s e = rw e
 

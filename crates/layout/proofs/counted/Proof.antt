@@ -1,62 +1,46 @@
-use Rattle.layout.proofs.Places.{extent-is}
-use Rattle.layout.specs.Layout.{counted}
 use native.Mathlib.Omega.{arith}
 use borrow.Author.Needs.{needs}
+use Rattle.layout.specs.Layout.{counted}
+use Rattle.layout.proofs.Places.{extent-is}
 use Rattle.layout.proofs.counted.Statement.{statement}
 use Rattle.layout.proofs.counted.Tie as tie
-use Rattle.layout.proofs.counted.Reads as reads
-use Rattle.layout.proofs.counted.Lts as lts
-use Rattle.layout.proofs.one_if.Reads as one-if-reads
 
--- src/lib.rt:44:26
 one-if-requires : tie.Need-one-if-requires
 one-if-requires c κs = search needs
 
--- src/lib.rt:44:16
 add-t5 : tie.Need-add-t5
 add-t5 c = omega (arith, extent-is (c .before .before .args .l))
 
--- src/lib.rt:45:26
 one-if-requires-2 : tie.Need-one-if-requires-2
 one-if-requires-2 c κs = search needs
 
--- src/lib.rt:45:16
 add-t8 : tie.Need-add-t8
 add-t8 c = omega (arith, extent-is (c .before .before .before .before .args .l))
 
--- src/lib.rt:46:26
 one-if-requires-3 : tie.Need-one-if-requires-3
 one-if-requires-3 c κs = search needs
 
--- src/lib.rt:46:16
 add-t11 : tie.Need-add-t11
 add-t11 c = omega (arith, extent-is (c .before .before .before .before .before .before .args .l))
 
--- src/lib.rt:47:28
 one-if-requires-4 : tie.Need-one-if-requires-4
 one-if-requires-4 c κs = search needs
 
--- src/lib.rt:47:17
 add-t14 : tie.Need-add-t14
 add-t14 c = omega (arith, extent-is (c .before .before .before .before .before .before .before .before .args .l))
 
--- src/lib.rt:48:24
 one-if-requires-5 : tie.Need-one-if-requires-5
 one-if-requires-5 c κs = search needs
 
--- src/lib.rt:48:15
 add-t17 : tie.Need-add-t17
 add-t17 c = omega (arith, extent-is (c .before .before .before .before .before .before .before .before .before .before .args .l))
 
--- src/lib.rt:49:30
 one-if-requires-6 : tie.Need-one-if-requires-6
 one-if-requires-6 c κs = search needs
 
--- src/lib.rt:49:18
 add-t20 : tie.Need-add-t20
 add-t20 c = omega (arith, extent-is (c .before .before .before .before .before .before .before .before .before .before .before .before .args .l))
 
--- src/lib.rt:39:1
 returns : tie.Need-returns
 unfolding counted
 returns c = cc

@@ -1,15 +1,11 @@
-use Rattle.layout.proofs.Places.{first-one, first-next, first-most}
-use Rattle.layout.specs.Layout.{firstOf, extent}
+use Prim.Native.Nat.{_+_, _*_, _-_, _≤_}
+use mathlib.Core.Path.{_≡_, sym}
 use native.Mathlib.Omega.{arith}
-use mathlib.Core.Path.{_≡_, sym, _∙_}
-use Prim.Native.Nat.{_+_, _*_, _-_, _≤_, _<_}
 use borrow.Author.Needs.{needs}
+use Rattle.layout.specs.Layout.{firstOf, extent}
+use Rattle.layout.proofs.Places.{first-one, first-next, first-most}
 use Rattle.layout.proofs.first_of.Statement.{statement}
 use Rattle.layout.proofs.first_of.Tie as tie
-use Rattle.layout.proofs.first_of.Reads as reads
-use Rattle.layout.proofs.first_of.Lts as lts
-use Rattle.layout.proofs.count_of.Reads as count-of-reads
-use Rattle.layout.proofs.size_of.Reads as size-of-reads
 
 abbrev Inv-loop : tie.InvT-loop
 Inv-loop l kind first₀ k₀ first k = (1 ≤ k) × (k ≤ kind) × (first ≡ firstOf l k)
@@ -28,39 +24,30 @@ sum-most c =
     let i = c .before .before .before .loop in
     first-most (c .before .before .before .before .args .l) (i .k) (i .inv .0) (omega arith)
 
--- src/lib.rt:60:5
 loop-holds : tie.Need-loop-holds Inv-loop μ-loop
 loop-holds c = (omega arith, c .pre .1, sym (first-one (c .args .l)))
 
--- src/lib.rt:61:18
 size-of-requires : tie.Need-size-of-requires Inv-loop μ-loop
 size-of-requires c κs = search needs
 
--- src/lib.rt:61:31
 count-of-requires : tie.Need-count-of-requires Inv-loop μ-loop
 count-of-requires c κs = search needs
 
--- src/lib.rt:61:18
 mul-first : tie.Need-mul-first Inv-loop μ-loop
 mul-first c = omega (arith, sum-next c, sum-most c)
 
--- src/lib.rt:61:9
 add-first : tie.Need-add-first Inv-loop μ-loop
 add-first c = omega (arith, sum-next c, sum-most c)
 
--- src/lib.rt:62:9
 add-k : tie.Need-add-k Inv-loop μ-loop
 add-k c = omega arith
 
--- src/lib.rt:60:5
 loop-less : tie.Need-loop-less Inv-loop μ-loop
 loop-less c = omega arith
 
--- src/lib.rt:60:5
 loop-again : tie.Need-loop-again Inv-loop μ-loop
 loop-again c = (omega arith, omega arith, sum-next c)
 
--- src/lib.rt:54:1
 returns : tie.Need-returns Inv-loop μ-loop
 returns c =
     let p = c .before in

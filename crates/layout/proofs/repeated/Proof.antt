@@ -1,61 +1,45 @@
-use Rattle.layout.proofs.Names.{name-room, repeated-never, repeated-at}
-use Prim.Native.Nat.{_-_}
-use Rattle.layout.specs.Layout.{firstOf}
-use denote.Ref.{now}
-use lib.ListN.{length}
+use Prim.Native.Nat.{_-_, _+_, _*_}
+use mathlib.Core.Path.{_≡_, sym}
 use native.Mathlib.Omega.{arith}
-use mathlib.Core.Path.{_≡_, refl, sym, _∙_}
-use Prim.Native.Nat.{_+_, _*_, _≤_}
 use borrow.Author.Needs.{needs}
+use denote.Ref.{now}
+use Rattle.layout.specs.Layout.{firstOf}
+use Rattle.layout.proofs.Names.{name-room, repeated-never, repeated-at}
 use Rattle.layout.proofs.repeated.Statement.{statement}
 use Rattle.layout.proofs.repeated.Tie as tie
-use Rattle.layout.proofs.repeated.Reads as reads
-use Rattle.layout.proofs.repeated.Lts as lts
-use Rattle.layout.proofs.count_of.Reads as count-of-reads
-use Rattle.layout.proofs.size_of.Reads as size-of-reads
-use Rattle.names.proofs.seen.Reads as seen-reads
 
 -- the record stands behind the others of its kind
 behind : (c : tie.After-size-of) → c .before .before .before .before .args .at ≡ firstOf (c .before .before .before .before .args .l) (c .before .before .before .before .args .kind) + c .size-of .result * c .before .count-of .result
 behind c = rw (c .size-of .ensures .0, c .before .count-of .ensures) (c .before .before .before .before .pre .2)
 
--- src/lib.rt:81:9
 returns : tie.Need-returns
 returns c =
     let p = c .before .before .args in
     rw (c .if1 .taken) (sym (repeated-never (now (p .s)) (p .l) (p .at + 1)))
 
--- src/lib.rt:83:9
 count-of-requires : tie.Need-count-of-requires
 count-of-requires c κs = search needs
 
--- src/lib.rt:84:9
 size-of-requires : tie.Need-size-of-requires
 size-of-requires c κs = search needs
 
--- src/lib.rt:85:22
 mul-first : tie.Need-mul-first
 mul-first c = omega (arith, behind c)
 
--- src/lib.rt:85:17
 sub-first : tie.Need-sub-first
 sub-first c = omega (arith, behind c)
 
--- src/lib.rt:85:17
 add-first : tie.Need-add-first
 add-first c = search needs
 
--- src/lib.rt:86:20
 add-seen : tie.Need-add-seen
 add-seen c = search needs
 
--- src/lib.rt:86:5
 seen-requires : tie.Need-seen-requires
 seen-requires c κs =
     let p = c .before .before .before .before in
     omega (arith, behind c, c .size-of .ensures .0, name-room (p .args .kind) (p .pre .0) (omega arith))
 
--- src/lib.rt:76:1
 returns-2 : tie.Need-returns-2
 returns-2 c =
     let b = c .before in

@@ -1,26 +1,10 @@
-use Rattle.layout.proofs.ByKind.{sixth}
-use Rattle.sheet.specs.Sheet.{bodyRow}
-use Rattle.records.specs.Bodies.{byKind}
-use native.Mathlib.Omega.{arith}
-use mathlib.Core.Path.{_≡_, refl, sym, _∙_}
-use Prim.Native.Nat.{_≤_}
+use mathlib.Core.Path.{_≡_}
 use borrow.Author.Needs.{needs}
+use Rattle.layout.proofs.ByKind.{sixth}
+use Rattle.records.specs.Bodies.{byKind}
+use Rattle.sheet.specs.Sheet.{bodyRow}
 use Rattle.sheet.proofs.body_row.Statement.{statement}
 use Rattle.sheet.proofs.body_row.Tie as tie
-use Rattle.sheet.proofs.body_row.Reads as reads
-use Rattle.sheet.proofs.body_row.Lts as lts
-use Rattle.records.proofs.bodies.factor_of.Reads as factor-of-reads
-use Rattle.records.proofs.bodies.head_of.Reads as head-of-reads
-use Rattle.records.proofs.bodies.par_of.Reads as par-of-reads
-use Rattle.records.proofs.bodies.point_of.Reads as point-of-reads
-use Rattle.records.proofs.bodies.unit_of.Reads as unit-of-reads
-use Rattle.records.proofs.bodies.zone_of.Reads as zone-of-reads
-use Rattle.records.proofs.rows.factor_row.Reads as factor-row-reads
-use Rattle.records.proofs.rows.head_row.Reads as head-row-reads
-use Rattle.records.proofs.rows.par_row.Reads as par-row-reads
-use Rattle.records.proofs.rows.point_row.Reads as point-row-reads
-use Rattle.records.proofs.rows.unit_row.Reads as unit-row-reads
-use Rattle.records.proofs.rows.zone_row.Reads as zone-row-reads
 
 -- the last arm
 is-factor : (c : tie.At-match-rest) → c .before .before .args .kind ≡ 6
@@ -29,86 +13,68 @@ is-factor c =
     let n = c .match .rest in
     sixth _ (p .1) (p .2) (n .0 .0 .0 .0 .1) (n .0 .0 .0 .1) (n .0 .0 .1) (n .0 .1) (n .1)
 
--- src/lib.rt:53:29
 head-of-requires : tie.Need-head-of-requires
 unfolding byKind
 head-of-requires c κs = rw (c .match .keys1) at (c .before .before .pre .3)
 
--- src/lib.rt:53:14
 head-row-requires : tie.Need-head-row-requires
 head-row-requires c κs = search needs
 
--- src/lib.rt:54:39
 zone-of-requires : tie.Need-zone-of-requires
 unfolding byKind
 zone-of-requires c κs = rw (c .match .keys2) at (c .before .before .pre .3)
 
--- src/lib.rt:54:14
 zone-row-requires : tie.Need-zone-row-requires
 zone-row-requires c κs = search needs
 
--- src/lib.rt:55:48
 unit-of-requires : tie.Need-unit-of-requires
 unfolding byKind
 unit-of-requires c κs = rw (c .match .keys3) at (c .before .before .pre .3)
 
--- src/lib.rt:55:14
 unit-row-requires : tie.Need-unit-row-requires
 unit-row-requires c κs = search needs
 
--- src/lib.rt:56:49
 point-of-requires : tie.Need-point-of-requires
 unfolding byKind
 point-of-requires c κs = rw (c .match .keys4) at (c .before .before .pre .3)
 
--- src/lib.rt:56:14
 point-row-requires : tie.Need-point-row-requires
 point-row-requires c κs = search needs
 
--- src/lib.rt:57:38
 par-of-requires : tie.Need-par-of-requires
 unfolding byKind
 par-of-requires c κs = rw (c .match .keys5) at (c .before .before .pre .3)
 
--- src/lib.rt:57:14
 par-row-requires : tie.Need-par-row-requires
 par-row-requires c κs = search needs
 
--- src/lib.rt:59:17
 factor-of-requires : tie.Need-factor-of-requires
 unfolding byKind
 factor-of-requires c κs = rw (is-factor c) at (c .before .before .pre .3)
 
--- src/lib.rt:60:13
 factor-row-requires : tie.Need-factor-row-requires
 factor-row-requires c κs = search needs
 
--- src/lib.rt:48:1
 returns : tie.Need-returns
 unfolding bodyRow byKind
 returns c = rw (c .before .before .match .keys1, ← c .before .head-of .ensures) (c .head-row .ensures)
 
--- src/lib.rt:48:1
 returns-2 : tie.Need-returns-2
 unfolding bodyRow byKind
 returns-2 c = rw (c .before .before .match .keys2, ← c .before .zone-of .ensures) (c .zone-row .ensures)
 
--- src/lib.rt:48:1
 returns-3 : tie.Need-returns-3
 unfolding bodyRow byKind
 returns-3 c = rw (c .before .before .match .keys3, ← c .before .unit-of .ensures) (c .unit-row .ensures)
 
--- src/lib.rt:48:1
 returns-4 : tie.Need-returns-4
 unfolding bodyRow byKind
 returns-4 c = rw (c .before .before .match .keys4, ← c .before .point-of .ensures) (c .point-row .ensures)
 
--- src/lib.rt:48:1
 returns-5 : tie.Need-returns-5
 unfolding bodyRow byKind
 returns-5 c = rw (c .before .before .match .keys5, ← c .before .par-of .ensures) (c .par-row .ensures)
 
--- src/lib.rt:48:1
 returns-6 : tie.Need-returns-6
 unfolding bodyRow byKind
 returns-6 c = rw (is-factor (c .before .before), ← c .before .factor-of .ensures) (c .factor-row .ensures)

@@ -1,18 +1,13 @@
-use Rattle.sheet.proofs.Accepted.{extent-is, allowed, all-due, whole, factor-is, factor-there}
-use Rattle.records.specs.Bodies.{byKind}
+use Prim.Native.Nat.{_<_}
+use mathlib.Core.Path.{sym, _∙_}
+use native.Mathlib.Omega.{arith}
 use mir.Facts.{toZ-ofZ, sfits-widen}
 use mir.Val.{SFits}
 use mir.Syntax.{w16, w64}
-use native.Mathlib.Omega.{arith}
-use mathlib.Core.Path.{_≡_, sym, _∙_}
-use Prim.Native.Nat.{_<_}
+use Rattle.records.specs.Bodies.{byKind}
+use Rattle.sheet.proofs.Accepted.{extent-is, allowed, all-due, whole, factor-is, factor-there}
 use Rattle.sheet.proofs.factor_at.Statement.{statement}
 use Rattle.sheet.proofs.factor_at.Tie as tie
-use Rattle.sheet.proofs.factor_at.Reads as reads
-use Rattle.sheet.proofs.factor_at.Lts as lts
-use Rattle.due.proofs.due_place.Reads as due-place-reads
-use Rattle.layout.proofs.body_at.Reads as body-at-reads
-use Rattle.records.proofs.bodies.factor_of.Reads as factor-of-reads
 
 -- the sheet has the factor that is due there
 there : (c : tie.After-due-place) → c .due-place .result < c .before .before .args .l .factors
@@ -21,32 +16,27 @@ there c = omega (arith, c .due-place .ensures .0, all-due _ _ (c .before .before
 told : (c : tie.After-struct-told) → SFits w16 (c .before .before .factor-of .result .factor)
 told c = record { sfits = c .struct-told .given .1 .1 .1 .0 .1 }
 
--- src/lib.rt:165:9
 due-place-requires : tie.Need-due-place-requires
 due-place-requires c κs =
     let p = c .before .pre in
     let a = allowed _ _ (p .0) in
     (a .units, a .zones, a .points, a .pars, p .1)
 
--- src/lib.rt:166:31
 body-at-requires : tie.Need-body-at-requires
 unfolding byKind
 body-at-requires c κs =
     let p = c .before .before .pre in
     (omega (arith, extent-is _ _ (p .0)), omega arith, omega arith, there c)
 
--- src/lib.rt:166:9
 factor-of-requires : tie.Need-factor-of-requires
 unfolding byKind
 factor-of-requires c κs =
     let p = c .before .before .before in
     rw (c .body-at .ensures) (omega (arith, whole _ _ (p .pre .0) 6 _ (omega arith) (omega arith) (there (c .before))))
 
--- src/lib.rt:167:5
 cast-result : tie.Need-cast-result
 cast-result c = rw (toZ-ofZ {w = w16} (told c)) (sfits-widen tt (told c))
 
--- src/lib.rt:161:1
 returns : tie.Need-returns
 returns c =
     let b = c .before .before .before in

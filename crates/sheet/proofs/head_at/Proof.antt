@@ -1,29 +1,21 @@
-use Rattle.sheet.proofs.Accepted.{extent-is, whole, some-head, head-is}
-use Rattle.records.specs.Bodies.{byKind}
-use denote.Ref.{now}
 use native.Mathlib.Omega.{arith}
+use Rattle.records.specs.Bodies.{byKind}
+use Rattle.sheet.proofs.Accepted.{extent-is, whole, some-head, head-is}
 use Rattle.sheet.proofs.head_at.Statement.{statement}
 use Rattle.sheet.proofs.head_at.Tie as tie
-use Rattle.sheet.proofs.head_at.Reads as reads
-use Rattle.sheet.proofs.head_at.Lts as lts
-use Rattle.layout.proofs.body_at.Reads as body-at-reads
-use Rattle.records.proofs.bodies.head_of.Reads as head-of-reads
 
--- src/lib.rt:129:21
 body-at-requires : tie.Need-body-at-requires
 unfolding byKind
 body-at-requires c κs =
     let p = c .before .pre in
     (omega (arith, extent-is _ _ p), omega arith, omega arith, some-head _ _ p)
 
--- src/lib.rt:129:5
 head-of-requires : tie.Need-head-of-requires
 unfolding byKind
 head-of-requires c κs =
     let p = c .before .before .pre in
     rw (c .body-at .ensures) (omega (arith, whole _ _ p 1 0 (omega arith) (omega arith) (some-head _ _ p)))
 
--- src/lib.rt:125:1
 returns : tie.Need-returns
 returns c =
     let p = c .before .before .before .pre in

@@ -1,35 +1,28 @@
-use Rattle.sheet.proofs.Front.{never}
+use mathlib.Core.Path.{sym}
 use lib.Dec.{eqb}
 use borrow.Author.Tests.{ne-eqb}
-use mathlib.Core.Path.{sym}
-use Rattle.sheet.specs.Sheet.{oneTooMany}
 use Rattle.records.specs.Bodies.{byKind}
+use Rattle.sheet.specs.Sheet.{oneTooMany}
+use Rattle.sheet.proofs.Front.{never}
 use Rattle.sheet.proofs.one_too_many.Statement.{statement}
 use Rattle.sheet.proofs.one_too_many.Tie as tie
-use Rattle.sheet.proofs.one_too_many.Reads as reads
-use Rattle.sheet.proofs.one_too_many.Lts as lts
 
--- src/lib.rt:25:1
 returns : tie.Need-returns
 unfolding oneTooMany byKind
 returns c = rw (c .before .match .keys1)
 
--- src/lib.rt:25:1
 returns-2 : tie.Need-returns-2
 unfolding oneTooMany byKind
 returns-2 c = rw (c .before .match .keys2)
 
--- src/lib.rt:25:1
 returns-3 : tie.Need-returns-3
 unfolding oneTooMany byKind
 returns-3 c = rw (c .before .match .keys3)
 
--- src/lib.rt:25:1
 returns-4 : tie.Need-returns-4
 unfolding oneTooMany byKind
 returns-4 c = rw (c .before .match .keys4)
 
--- src/lib.rt:25:1
 returns-5 : tie.Need-returns-5
 unfolding oneTooMany byKind
 returns-5 c =

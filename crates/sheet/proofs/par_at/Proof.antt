@@ -1,29 +1,21 @@
-use Rattle.sheet.proofs.Accepted.{extent-is, whole, par-is}
-use Rattle.records.specs.Bodies.{byKind}
-use denote.Ref.{now}
 use native.Mathlib.Omega.{arith}
+use Rattle.records.specs.Bodies.{byKind}
+use Rattle.sheet.proofs.Accepted.{extent-is, whole, par-is}
 use Rattle.sheet.proofs.par_at.Statement.{statement}
 use Rattle.sheet.proofs.par_at.Tie as tie
-use Rattle.sheet.proofs.par_at.Reads as reads
-use Rattle.sheet.proofs.par_at.Lts as lts
-use Rattle.layout.proofs.body_at.Reads as body-at-reads
-use Rattle.records.proofs.bodies.par_of.Reads as par-of-reads
 
--- src/lib.rt:157:20
 body-at-requires : tie.Need-body-at-requires
 unfolding byKind
 body-at-requires c κs =
     let p = c .before .pre in
     (omega (arith, extent-is _ _ (p .0)), omega arith, omega arith, p .1)
 
--- src/lib.rt:157:5
 par-of-requires : tie.Need-par-of-requires
 unfolding byKind
 par-of-requires c κs =
     let p = c .before .before in
     rw (c .body-at .ensures) (omega (arith, whole _ _ (p .pre .0) 5 (p .args .i) (omega arith) (omega arith) (p .pre .1)))
 
--- src/lib.rt:153:1
 returns : tie.Need-returns
 returns c =
     let p = c .before .before .before in

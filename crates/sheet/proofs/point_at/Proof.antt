@@ -1,29 +1,21 @@
-use Rattle.sheet.proofs.Accepted.{extent-is, whole, point-is}
-use Rattle.records.specs.Bodies.{byKind}
-use denote.Ref.{now}
 use native.Mathlib.Omega.{arith}
+use Rattle.records.specs.Bodies.{byKind}
+use Rattle.sheet.proofs.Accepted.{extent-is, whole, point-is}
 use Rattle.sheet.proofs.point_at.Statement.{statement}
 use Rattle.sheet.proofs.point_at.Tie as tie
-use Rattle.sheet.proofs.point_at.Reads as reads
-use Rattle.sheet.proofs.point_at.Lts as lts
-use Rattle.layout.proofs.body_at.Reads as body-at-reads
-use Rattle.records.proofs.bodies.point_of.Reads as point-of-reads
 
--- src/lib.rt:150:22
 body-at-requires : tie.Need-body-at-requires
 unfolding byKind
 body-at-requires c κs =
     let p = c .before .pre in
     (omega (arith, extent-is _ _ (p .0)), omega arith, omega arith, p .1)
 
--- src/lib.rt:150:5
 point-of-requires : tie.Need-point-of-requires
 unfolding byKind
 point-of-requires c κs =
     let p = c .before .before in
     rw (c .body-at .ensures) (omega (arith, whole _ _ (p .pre .0) 4 (p .args .i) (omega arith) (omega arith) (p .pre .1)))
 
--- src/lib.rt:146:1
 returns : tie.Need-returns
 returns c =
     let p = c .before .before .before in

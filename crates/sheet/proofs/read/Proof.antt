@@ -1,25 +1,18 @@
+use Prim.Native.Nat.{_-_}
+use mathlib.Core.Path.{_≡_, sym, _∙_}
+use native.Mathlib.Omega.{arith}
+use lib.ListN.{length, drop}
 use borrow.Author.Tests.{eq-eqb, ne-eqb}
+use borrow.Author.Needs.{needs}
+use denote.Ref.{now}
+use Rattle.layout.proofs.Contents.{none-at, layout-at}
+use Rattle.layout.specs.Layout.{contentAt}
+use Rattle.sheet.specs.Passed.{Passed, none, more}
+use Rattle.sheet.specs.Sheet.{recordsFrom, reading, readSheet}
 use Rattle.sheet.proofs.Walk.{first-empty, first-other, first-head, read-first, read-on, from-refused, from-next, from-end}
 use Rattle.sheet.proofs.Reach.{at-laid, at-allowed, at-fronted, at-next}
-use Rattle.layout.specs.declared.Layout.{Layout}
-use Rattle.sheet.specs.Passed.{Passed, none, more}
-use Rattle.sheet.specs.Sheet.{recordsFrom, reading, readSheet, outcome}
-use Rattle.layout.proofs.Contents.{none-at, layout-at}
-use Rattle.layout.specs.Layout.{contentAt, noRecords}
-use denote.Ref.{now}
-use lib.ListN.{length, drop}
-use native.Mathlib.Omega.{arith}
-use mathlib.Core.Path.{_≡_, refl, sym, ap, _∙_}
-use Prim.Native.Nat.{_+_, _*_, _-_, _≤_, _<_}
-use borrow.Author.Needs.{needs}
 use Rattle.sheet.proofs.read.Statement.{statement}
 use Rattle.sheet.proofs.read.Tie as tie
-use Rattle.sheet.proofs.read.Reads as reads
-use Rattle.sheet.proofs.read.Lts as lts
-use Rattle.layout.proofs.counted.Reads as counted-reads
-use Rattle.records.proofs.bodies.body_length.Reads as body-length-reads
-use Rattle.sheet.proofs.end_row.Reads as end-row-reads
-use Rattle.sheet.proofs.record_row.Reads as record-row-reads
 
 abbrev Inv-loop : tie.InvT-loop
 Inv-loop s l₀ last₀ at₀ l last at = Passed s at last (contentAt s l) × (recordsFrom at 0 last (contentAt s l) (drop at s) ≡ reading s)
@@ -27,33 +20,27 @@ Inv-loop s l₀ last₀ at₀ l last at = Passed s at last (contentAt s l) × (r
 abbrev μ-loop : tie.MeasureT-loop
 μ-loop s l₀ last₀ at₀ l last at = length s - at
 
--- src/lib.rt:93:9
 returns : tie.Need-returns Inv-loop μ-loop
 returns c =
     let s = now (c .before .before .args .s) in
     sym (read-first s (first-empty s (c .if1 .taken)))
 
--- src/lib.rt:95:8
 shared-slice-read-if2 : tie.Need-shared-slice-read-if2 Inv-loop μ-loop
 shared-slice-read-if2 c = search needs
 
--- src/lib.rt:96:9
 returns-2 : tie.Need-returns-2 Inv-loop μ-loop
 returns-2 c =
     let s = now (c .before .before .before .before .args .s) in
     sym (read-first s (first-other s (c .if2 .taken)))
 
--- src/lib.rt:108:5
 loop-holds : tie.Need-loop-holds Inv-loop μ-loop
 loop-holds c =
     let s = now (c .before .before .before .before .args .s) in
     rw (none-at s) (none, read-on s (first-head s (c .before .before .if1 .left) (c .if2 .left)))
 
--- src/lib.rt:109:13
 record-row-requires : tie.Need-record-row-requires Inv-loop μ-loop
 record-row-requires c κs = (c .before .loop .inv .0, c .loop-test .taken)
 
--- src/lib.rt:111:13
 returns-3 : tie.Need-returns-3 Inv-loop μ-loop
 unfolding readSheet
 returns-3 c =
@@ -62,25 +49,20 @@ returns-3 c =
     let e = c .before .record-row .ensures in
     rw (← l .inv .1, from-refused s (l .at) (l .last) (contentAt s (l .l)) (c .before .before .loop-test .taken) (λ q. c .if3 .taken (e ∙ q)), e)
 
--- src/lib.rt:113:16
 shared-slice-read-last : tie.Need-shared-slice-read-last Inv-loop μ-loop
 shared-slice-read-last c = search needs
 
--- src/lib.rt:114:9
 counted-requires : tie.Need-counted-requires Inv-loop μ-loop
 counted-requires c κs =
     let l = c .before .before .before .before .loop in
     omega (arith, at-laid _ _ _ _ (l .inv .0) .here)
 
--- src/lib.rt:115:14
 add-at : tie.Need-add-at Inv-loop μ-loop
 add-at c = search needs
 
--- src/lib.rt:115:23
 body-length-requires : tie.Need-body-length-requires Inv-loop μ-loop
 body-length-requires c κs = search needs
 
--- src/lib.rt:115:14
 add-at-2 : tie.Need-add-at-2 Inv-loop μ-loop
 add-at-2 c =
     let p = c .before .before in
@@ -89,11 +71,9 @@ add-at-2 c =
     let f = at-fronted _ (l .at) (l .last) (l .l) (l .inv .0) (p .before .before .before .loop-test .taken) q in
     omega (arith, f .fits, c .body-length .ensures)
 
--- src/lib.rt:108:5
 loop-less : tie.Need-loop-less Inv-loop μ-loop
 loop-less c = omega arith
 
--- src/lib.rt:108:5
 loop-again : tie.Need-loop-again Inv-loop μ-loop
 loop-again c =
     let p = c .before .before in
@@ -104,11 +84,9 @@ loop-again c =
     rw (c .before .counted .ensures, c .body-length .ensures, ← at-next s (l .at) (l .last) (l .l) (l .inv .0) h q)
     (more (l .inv .0) h q, from-next s (l .at) (l .last) (contentAt s (l .l)) h q ∙ l .inv .1)
 
--- src/lib.rt:117:9
 end-row-requires : tie.Need-end-row-requires Inv-loop μ-loop
 end-row-requires c κs = at-allowed _ _ _ _ (c .before .loop .inv .0)
 
--- src/lib.rt:119:9
 returns-4 : tie.Need-returns-4 Inv-loop μ-loop
 unfolding readSheet
 returns-4 c =
@@ -116,7 +94,6 @@ returns-4 c =
     let s = now (c .before .before .before .before .before .before .before .before .args .s) in
     rw (← l .inv .1, from-end s (l .at) (l .last) (contentAt s (l .l)) (c .before .before .loop-test .left), layout-at s (l .l), ← c .before .end-row .ensures, ne-eqb _ _ (c .if4 .taken))
 
--- src/lib.rt:89:1
 returns-5 : tie.Need-returns-5 Inv-loop μ-loop
 unfolding readSheet
 returns-5 c =

@@ -1,48 +1,36 @@
-use Rattle.sheet.proofs.Reach.{at-laid, at-allowed}
-use Rattle.sheet.proofs.Front.{Fronted, front-pass, front-split}
-use Rattle.sheet.specs.Sheet.{recordRow}
+use Prim.Native.Nat.{_+_, _-_}
+use mathlib.Core.Path.{sym, _∙_}
+use native.Mathlib.Omega.{arith}
+use native.Mathlib.Nat.{add-sub-cancel-left}
+use lib.ListN.{length, length-drop, length-take}
+use borrow.Author.Tests.{eq-eqb, ne-eqb}
+use borrow.Author.Needs.{needs}
+use denote.Ref.{now}
 use Rattle.layout.proofs.Contents.{layout-at}
 use Rattle.fields.specs.Fields.{byteAt}
 use Rattle.layout.proofs.Laid.{laid-at}
-use Rattle.layout.specs.Layout.{contentAt}
-use denote.Ref.{now}
-use borrow.Author.Tests.{eq-eqb, ne-eqb}
-use lib.ListN.{length, drop, length-drop, length-take}
-use native.Mathlib.Omega.{arith}
-use native.Mathlib.Nat.{add-sub-cancel-left}
-use mathlib.Core.Path.{_≡_, refl, sym, _∙_}
-use Prim.Native.Nat.{_+_, _-_, _≤_}
-use borrow.Author.Needs.{needs}
+use Rattle.sheet.specs.Sheet.{recordRow}
+use Rattle.sheet.proofs.Reach.{at-laid, at-allowed}
+use Rattle.sheet.proofs.Front.{Fronted, front-pass, front-split}
 use Rattle.sheet.proofs.record_row.Statement.{statement}
 use Rattle.sheet.proofs.record_row.Tie as tie
-use Rattle.sheet.proofs.record_row.Reads as reads
-use Rattle.sheet.proofs.record_row.Lts as lts
-use Rattle.layout.proofs.repeated.Reads as repeated-reads
-use Rattle.records.proofs.bodies.body_length.Reads as body-length-reads
-use Rattle.sheet.proofs.body_row.Reads as body-row-reads
-use Rattle.sheet.proofs.front_row.Reads as front-row-reads
 
 -- rows 2 to 5 have passed
 passes : (c : tie.Else1) → Fronted (c .before .before .before .before .args .l) (c .before .before .before .before .args .last) (byteAt (now (c .before .before .before .before .args .s)) (c .before .before .before .before .args .at)) (length (now (c .before .before .before .before .args .s)) - (c .before .before .before .before .args .at + 1))
 passes c = front-pass _ _ _ _ 0 (sym (c .before .front-row .ensures) ∙ c .if1 .left) .0
 
--- src/lib.rt:70:16
 shared-slice-read-kind : tie.Need-shared-slice-read-kind
 shared-slice-read-kind c = search needs
 
--- src/lib.rt:71:16
 add-from : tie.Need-add-from
 add-from c = search needs
 
--- src/lib.rt:72:42
 sub-front-row : tie.Need-sub-front-row
 sub-front-row c = search needs
 
--- src/lib.rt:72:9
 front-row-requires : tie.Need-front-row-requires
 front-row-requires c κs = search needs
 
--- src/lib.rt:74:9
 returns : tie.Need-returns
 unfolding recordRow
 returns c =
@@ -50,34 +38,27 @@ returns c =
     let s = now (a .s) in
     rw (layout-at s (a .l), length-drop (a .at + 1) s, front-split, ← c .before .front-row .ensures, ne-eqb _ _ (c .if1 .taken))
 
--- src/lib.rt:76:9
 repeated-requires : tie.Need-repeated-requires
 repeated-requires c κs =
     let p = c .before .before .before .before in
     let f = passes c in
     (f .low, f .high, laid-at (p .args .l) _ (p .args .at) _ (at-laid _ _ _ _ (p .pre .0)) (f .low) (f .high) (f .order), omega (arith, f .fits))
 
--- src/lib.rt:77:49
 body-length-requires : tie.Need-body-length-requires
 body-length-requires c κs = search needs
 
--- src/lib.rt:77:42
 add-body-row : tie.Need-add-body-row
 add-body-row c = omega (arith, passes (c .before .before) .fits)
 
--- src/lib.rt:77:33
 sub-body-row : tie.Need-sub-body-row
 sub-body-row c = search needs
 
--- src/lib.rt:77:33
 part-body-row-start : tie.Need-part-body-row-start
 part-body-row-start c = search needs
 
--- src/lib.rt:77:33
 part-body-row-end : tie.Need-part-body-row-end
 part-body-row-end c = omega (arith, passes (c .before .before) .fits)
 
--- src/lib.rt:77:5
 body-row-requires : tie.Need-body-row-requires
 body-row-requires c κs =
     let p = c .before .before .before .before .before .before .before in
@@ -89,7 +70,6 @@ body-row-requires c κs =
       simp (length-take, length-drop) (omega (arith, f .fits, c .before .body-length .ensures)),
     )
 
--- src/lib.rt:66:1
 returns-2 : tie.Need-returns-2
 unfolding recordRow
 returns-2 c =

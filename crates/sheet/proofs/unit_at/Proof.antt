@@ -1,29 +1,21 @@
-use Rattle.sheet.proofs.Accepted.{extent-is, whole, unit-is}
-use Rattle.records.specs.Bodies.{byKind}
-use denote.Ref.{now}
 use native.Mathlib.Omega.{arith}
+use Rattle.records.specs.Bodies.{byKind}
+use Rattle.sheet.proofs.Accepted.{extent-is, whole, unit-is}
 use Rattle.sheet.proofs.unit_at.Statement.{statement}
 use Rattle.sheet.proofs.unit_at.Tie as tie
-use Rattle.sheet.proofs.unit_at.Reads as reads
-use Rattle.sheet.proofs.unit_at.Lts as lts
-use Rattle.layout.proofs.body_at.Reads as body-at-reads
-use Rattle.records.proofs.bodies.unit_of.Reads as unit-of-reads
 
--- src/lib.rt:143:21
 body-at-requires : tie.Need-body-at-requires
 unfolding byKind
 body-at-requires c κs =
     let p = c .before .pre in
     (omega (arith, extent-is _ _ (p .0)), omega arith, omega arith, p .1)
 
--- src/lib.rt:143:5
 unit-of-requires : tie.Need-unit-of-requires
 unfolding byKind
 unit-of-requires c κs =
     let p = c .before .before in
     rw (c .body-at .ensures) (omega (arith, whole _ _ (p .pre .0) 3 (p .args .i) (omega arith) (omega arith) (p .pre .1)))
 
--- src/lib.rt:139:1
 returns : tie.Need-returns
 returns c =
     let p = c .before .before .before in

@@ -1,29 +1,21 @@
-use Rattle.sheet.proofs.Accepted.{extent-is, whole, zone-is}
-use Rattle.records.specs.Bodies.{byKind}
-use denote.Ref.{now}
 use native.Mathlib.Omega.{arith}
+use Rattle.records.specs.Bodies.{byKind}
+use Rattle.sheet.proofs.Accepted.{extent-is, whole, zone-is}
 use Rattle.sheet.proofs.zone_at.Statement.{statement}
 use Rattle.sheet.proofs.zone_at.Tie as tie
-use Rattle.sheet.proofs.zone_at.Reads as reads
-use Rattle.sheet.proofs.zone_at.Lts as lts
-use Rattle.layout.proofs.body_at.Reads as body-at-reads
-use Rattle.records.proofs.bodies.zone_of.Reads as zone-of-reads
 
--- src/lib.rt:136:21
 body-at-requires : tie.Need-body-at-requires
 unfolding byKind
 body-at-requires c κs =
     let p = c .before .pre in
     (omega (arith, extent-is _ _ (p .0)), omega arith, omega arith, p .1)
 
--- src/lib.rt:136:5
 zone-of-requires : tie.Need-zone-of-requires
 unfolding byKind
 zone-of-requires c κs =
     let p = c .before .before in
     rw (c .body-at .ensures) (omega (arith, whole _ _ (p .pre .0) 2 (p .args .i) (omega arith) (omega arith) (p .pre .1)))
 
--- src/lib.rt:132:1
 returns : tie.Need-returns
 returns c =
     let p = c .before .before .before in

@@ -2,40 +2,31 @@ use borrow.Author.Tests.{ne-eqb}
 use Rattle.records.specs.Bodies.{byKind}
 use Rattle.records.proofs.bodies.by_kind.Statement.{statement}
 use Rattle.records.proofs.bodies.by_kind.Tie as tie
-use Rattle.records.proofs.bodies.by_kind.Reads as reads
-use Rattle.records.proofs.bodies.by_kind.Lts as lts
 
--- src/bodies.rt:10:1
 returns : tie.Need-returns
 unfolding byKind
 returns c = rw (c .match .keys1)
 
--- src/bodies.rt:10:1
 returns-2 : tie.Need-returns-2
 unfolding byKind
 returns-2 c = rw (c .match .keys2)
 
--- src/bodies.rt:10:1
 returns-3 : tie.Need-returns-3
 unfolding byKind
 returns-3 c = rw (c .match .keys3)
 
--- src/bodies.rt:10:1
 returns-4 : tie.Need-returns-4
 unfolding byKind
 returns-4 c = rw (c .match .keys4)
 
--- src/bodies.rt:10:1
 returns-5 : tie.Need-returns-5
 unfolding byKind
 returns-5 c = rw (c .match .keys5)
 
--- src/bodies.rt:10:1
 returns-6 : tie.Need-returns-6
 unfolding byKind
 returns-6 c = rw (c .match .keys6)
 
--- src/bodies.rt:10:1
 returns-7 : tie.Need-returns-7
 unfolding byKind
 returns-7 c =

@@ -1,31 +1,22 @@
 use mir.Facts.{toZ-ofZ}
 use mir.Syntax.{w16}
-use Rattle.records.specs.Bodies.{factorOf}
 use borrow.Author.Needs.{needs}
+use Rattle.records.specs.Bodies.{factorOf}
 use Rattle.records.proofs.bodies.factor_of.Statement.{statement}
 use Rattle.records.proofs.bodies.factor_of.Tie as tie
-use Rattle.records.proofs.bodies.factor_of.Reads as reads
-use Rattle.records.proofs.bodies.factor_of.Lts as lts
-use Rattle.fields.proofs.sbe16_at.Reads as sbe16-at-reads
-use Rattle.fields.proofs.ube16_at.Reads as ube16-at-reads
 
--- src/bodies.rt:126:17
 shared-slice-read-t3 : tie.Need-shared-slice-read-t3
 shared-slice-read-t3 c = search needs
 
--- src/bodies.rt:127:18
 shared-slice-read-t5 : tie.Need-shared-slice-read-t5
 shared-slice-read-t5 c = search needs
 
--- src/bodies.rt:128:16
 ube16-at-requires : tie.Need-ube16-at-requires
 ube16-at-requires c κs = search needs
 
--- src/bodies.rt:129:17
 sbe16-at-requires : tie.Need-sbe16-at-requires
 sbe16-at-requires c κs = search needs
 
--- src/bodies.rt:121:1
 returns : tie.Need-returns
 unfolding factorOf
 returns c =

@@ -1,19 +1,14 @@
-use Rattle.records.specs.Content.{bears}
 use borrow.Author.Needs.{needs}
+use Rattle.records.specs.Content.{bears}
 use Rattle.records.proofs.rows.bears.Statement.{statement}
 use Rattle.records.proofs.rows.bears.Tie as tie
-use Rattle.records.proofs.rows.bears.Reads as reads
-use Rattle.records.proofs.rows.bears.Lts as lts
 
--- src/rows.rt:113:6
 cast-result : tie.Need-cast-result
 cast-result c = search needs
 
--- src/rows.rt:113:68
 cast-result-2 : tie.Need-cast-result-2
 cast-result-2 c = search needs
 
--- src/rows.rt:110:1
 returns : tie.Need-returns
 unfolding bears
 returns c = cc

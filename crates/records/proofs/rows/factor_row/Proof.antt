@@ -1,51 +1,40 @@
+use mir.Facts.{toZ-ofZ}
+use mir.Syntax.{w16}
 use borrow.Author.Tests.{le-leb, lt-leb}
-use Rattle.records.specs.Rows.{factorRow}
 use borrow.Author.Needs.{needs}
+use Rattle.records.specs.Rows.{factorRow}
 use Rattle.records.proofs.rows.factor_row.Statement.{statement}
 use Rattle.records.proofs.rows.factor_row.Tie as tie
-use Rattle.records.proofs.rows.factor_row.Reads as reads
-use Rattle.records.proofs.rows.factor_row.Lts as lts
-use Rattle.due.proofs.due_at.Reads as due-at-reads
-use Rattle.due.proofs.due_count.Reads as due-count-reads
-use Rattle.records.proofs.rows.bears.Reads as bears-reads
-use Rattle.records.proofs.rows.factor_outside.Reads as factor-outside-reads
-use Rattle.records.proofs.rows.row.Reads as row-reads
 
--- src/rows.rt:127:8
 due-count-requires : tie.Need-due-count-requires
 due-count-requires c κs = search needs
 
--- src/rows.rt:128:9
 returns : tie.Need-returns
 unfolding factorRow
 returns c = rw (← c .before .due-count .ensures, le-leb _ _ (c .if1 .taken))
 
--- src/rows.rt:130:9
 due-at-requires : tie.Need-due-at-requires
 due-at-requires c κs = search needs
 
--- src/rows.rt:131:14
 bears-requires : tie.Need-bears-requires
 bears-requires c κs = search needs
 
--- src/rows.rt:131:35
-factor-outside-requires : tie.Need-factor-outside-requires
-factor-outside-requires c κs = search needs
+factor-beyond-requires : tie.Need-factor-beyond-requires
+factor-beyond-requires c κs = search needs
 
--- src/rows.rt:131:27
 row-requires : tie.Need-row-requires
 row-requires c κs = search needs
 
--- src/rows.rt:131:5
 row-requires-2 : tie.Need-row-requires-2
 row-requires-2 c κs = search needs
 
--- src/rows.rt:123:1
 returns-2 : tie.Need-returns-2
 unfolding factorRow
 returns-2 c =
-    let d = c .before .before .before .before in
-    rw (← d .before .before .due-count .ensures, lt-leb _ _ (d .before .if1 .left), ← d .due-at .ensures) (cc)
+    let t = c .before .before .before in
+    let d = t .before .before in
+    let factor = toZ-ofZ {w = w16} {z = d .before .before .before .args .f .factor} (record { sfits = t .struct-told .given .1 .1 .1 .0 .1 }) in
+    rw (c .row2 .ensures, c .before .row .ensures, c .before .before .factor-beyond .ensures, factor, t .before .bears .ensures, ← d .before .before .due-count .ensures, lt-leb _ _ (d .before .if1 .left), d .due-at .ensures)
 
 pub factor-row-spec : {M : Type 1} → statement M
 factor-row-spec =
@@ -55,7 +44,7 @@ factor-row-spec =
     returns
     due-at-requires
     bears-requires
-    factor-outside-requires
+    factor-beyond-requires
     row-requires
     row-requires-2
     returns-2)
