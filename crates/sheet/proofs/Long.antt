@@ -17,7 +17,7 @@ use Rattle.layout.specs.Layout.{extent, Allowed, layoutOf}
 use Rattle.layout.proofs.ByKind.{length-most}
 use Rattle.layout.proofs.Places.{extent-is}
 use Rattle.sheet.specs.declared.Outcome.the-variants.{Accepted}
-use Rattle.sheet.specs.Sheet.{Reading, holds, fails, recordRow, frontRow, cutShort, firstRow, recordsFrom, reading, readSheet, dueOf}
+use Rattle.sheet.specs.Sheet.{Reading, holds, fails, recordRow, frontRow, cutShort, firstRow, recordsFrom, reading, readSheet, contentOf, dueOf}
 use Rattle.sheet.specs.Passed.{Passed, none, more, rowAt, Accepts, Refuses}
 use Rattle.sheet.proofs.Reach.{fronted, reach-within, reach-laid, reach-allowed}
 use Rattle.sheet.proofs.Each.{each-factor}
