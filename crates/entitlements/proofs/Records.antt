@@ -1,10 +1,10 @@
 -- Row 14 on one record: what it leaves of a record that passes, and the conditions as the code tests them. Assumes nothing.
 use Prim.Native.Nat.{ℕ, zero, suc, _+_, _*_, _≤_, _<_}
 use mathlib.Core.Path.{_≡_, refl, _∙_}
-use mathlib.Core.Bool.{Bool, true, false, _||_, or-assoc, or-comm}
+use mathlib.Core.Bool.{Bool, true, false, _||_, or-assoc, or-comm, or-false, or-true}
 use mathlib.Core.List.{List}
 use native.Mathlib.Omega.{arith}
-use borrow.Author.Tests.{eq-eqb, eqb-true, le-ltb, leb-false, lt-leb, lt-ltb, ltb-false, not-false}
+use borrow.Author.Tests.{eq-eqb, eqb-true, le-leb, le-ltb, leb-false, lt-leb, lt-ltb, ltb-false, not-false}
 use lib.IntN.{natAbs}
 use lib.ListN.{length}
 use lib.Seq.{length-take-le}
@@ -66,11 +66,16 @@ module _ (es : List Entry) (k : ℕ) (r : List ℕ) where
   unfolding recordFault cutShort
   fault-cut h = rw (lt-ltb _ _ h)
 
+  pub fault-full : mostRecords ≤ length es → recordFault es k r ≡ true
+  unfolding recordFault surplus
+  fault-full h = rw (le-leb mostRecords (length es) h, or-true)
+
   -- name and value are tested together
-  pub fault-whole : bodyLength ≤ length r →
-      recordFault es k r ≡ (otherKind k || (badName (entryOf r .name) || outOfRange (entryOf r .value)) || repeated es (entryOf r .name) || surplus es)
-  unfolding recordFault cutShort
-  fault-whole h = rw (le-ltb (length r) bodyLength h, or-assoc (otherKind k) (badName (entryOf r .name)) (outOfRange (entryOf r .value)))
+  pub fault-whole : bodyLength ≤ length r → length es < mostRecords →
+      recordFault es k r ≡ (otherKind k || (badName (entryOf r .name) || outOfRange (entryOf r .value)) || repeated es (entryOf r .name))
+  unfolding recordFault cutShort surplus
+  fault-whole h g =
+      rw (le-ltb (length r) bodyLength h, lt-leb mostRecords (length es) g, or-false, or-assoc (otherKind k) (badName (entryOf r .name)) (outOfRange (entryOf r .value)))
 
 -- a name among those of the first n records: the code goes forwards, the definition back from the latest
 pub seen-repeated : (s name : List ℕ) (n : ℕ) → among s name 1 recordLength n ≡ repeated (firstEntries s n) name
