@@ -70,12 +70,16 @@ module _ (es : List Entry) (k : ℕ) (r : List ℕ) where
   unfolding recordFault surplus
   fault-full h = rw (le-leb mostRecords (length es) h, or-true)
 
-  -- name and value are tested together
-  pub fault-whole : bodyLength ≤ length r → length es < mostRecords →
-      recordFault es k r ≡ (otherKind k || (badName (entryOf r .name) || outOfRange (entryOf r .value)) || repeated es (entryOf r .name))
+  pub fault-twice : repeated es (entryOf r .name) ≡ true → recordFault es k r ≡ true
+  unfolding recordFault
+  fault-twice e = rw (e, or-true)
+
+  -- of a whole record with a new name, where there is room for it, kind, name and value are left to test; the last two are tested together
+  pub fault-new : bodyLength ≤ length r → length es < mostRecords → repeated es (entryOf r .name) ≡ false →
+      recordFault es k r ≡ (otherKind k || (badName (entryOf r .name) || outOfRange (entryOf r .value)))
   unfolding recordFault cutShort surplus
-  fault-whole h g =
-      rw (le-ltb (length r) bodyLength h, lt-leb mostRecords (length es) g, or-false, or-assoc (otherKind k) (badName (entryOf r .name)) (outOfRange (entryOf r .value)))
+  fault-new h g e =
+      rw (le-ltb (length r) bodyLength h, lt-leb mostRecords (length es) g, e, or-false, or-false) (or-assoc (otherKind k) (badName (entryOf r .name)) (outOfRange (entryOf r .value)))
 
 -- a name among those of the first n records: the code goes forwards, the definition back from the latest
 pub seen-repeated : (s name : List ℕ) (n : ℕ) → among s name 1 recordLength n ≡ repeated (firstEntries s n) name

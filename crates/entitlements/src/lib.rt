@@ -55,8 +55,10 @@ fn record_fault(list: &[u8], at: usize, n: usize, mask: usize, table: &mut [u16]
     if MOST_RECORDS <= n {
         return true;
     }
-    let twice = index::seen_or_added(list, from, 1, RECORD, 0, n, mask, table);
-    (list[at] != KIND) | entry_fault(&list[from..]) | twice
+    if index::seen_or_added(list, from, 1, RECORD, 0, n, mask, table) {
+        return true;
+    }
+    (list[at] != KIND) | entry_fault(&list[from..])
 }
 
 // Whether a record of the list meets row 14. The table, in which there is no name yet, has room for each.
@@ -96,10 +98,12 @@ fn look_up(entries: &[u8], name: &[u8]) -> Entitlement
     if name.len() != 16 {
         return Entitlement::Refused(15);
     }
+    let high = fields::be64_at(name, 0);
+    let low = fields::be64_at(name, 8);
     let mut at = 0;
     while at < entries.len() {
         let from = at + 1;
-        if names::same_at(entries, from, name, 0) {
+        if names::has_words(entries, from, high, low) {
             return Entitlement::Found(value_of(&entries[from..]));
         }
         at += RECORD;

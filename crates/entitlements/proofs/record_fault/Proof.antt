@@ -1,16 +1,15 @@
--- `record_fault` meets its contract: the conditions in the order of the definition. Assumes nothing.
+-- `record_fault` meets its contract: the conditions one after the other. Assumes nothing.
 use Prim.Native.Nat.{_+_, _≤_, _<_}
-use mathlib.Core.Bool.{true≢false, not, _||_}
-use mathlib.Core.Path.{sym}
+use mathlib.Core.Bool.{true≢false}
+use mathlib.Core.Path.{_≡_, sym, _∙_}
 use native.Mathlib.Omega.{arith}
 use denote.Ref.{now}
 use borrow.Author.Needs.{needs}
-use lib.ListN.{getD, length, drop, length-drop}
-use lib.Dec.{eqb}
+use lib.ListN.{length, drop, length-drop}
 use Rattle.entitlements.proofs.Walk.{first-count, tail-part}
-use Rattle.entitlements.proofs.Records.{fault-cut, fault-full, fault-whole, seen-repeated, or-none}
+use Rattle.entitlements.proofs.Records.{fault-cut, fault-full, fault-twice, fault-new, seen-repeated}
 use Rattle.entitlements.specs.Steps.{firstEntries}
-use Rattle.entitlements.specs.Entitlements.{mostRecords, entryOf, otherKind}
+use Rattle.entitlements.specs.Entitlements.{mostRecords, entryOf, otherKind, repeated}
 use Rattle.entitlements.proofs.record_fault.Statement.{statement}
 use Rattle.entitlements.proofs.record_fault.Tie as tie
 
@@ -36,6 +35,19 @@ seen-or-added-requires c κs =
     let r = p .pre .2 .room (p .args .n) (c .before .if2 .left) (omega arith) in
     (omega arith, omega arith, omega arith, omega arith, p .pre .3)
 
+same-length : tie.Need-same-length
+same-length c = search needs
+
+-- what the index says of the name
+repeated-is : (c : tie.After-seen-or-added) →
+    let a = c .before .before .before .before .before .before .args in
+    c .seen-or-added .result ≡ repeated (firstEntries (now (a .list)) (a .n)) (entryOf (drop (a .at + 1) (now (a .list))) .name)
+unfolding entryOf
+repeated-is c = c .seen-or-added .ensures .told ∙ seen-repeated _ _ _
+
+returns-3 : tie.Need-returns-3
+returns-3 c = record { told = sym (fault-twice _ _ _ (sym (repeated-is (c .before .before .before)) ∙ c .if3 .taken)); added = λ e. absurd (true≢false e) }
+
 shared-slice-read-result : tie.Need-shared-slice-read-result
 shared-slice-read-result c = search needs
 
@@ -51,20 +63,21 @@ part-entry-fault-end c = search needs
 entry-fault-requires : tie.Need-entry-fault-requires
 entry-fault-requires c κs = search needs
 
-same-length : tie.Need-same-length
-same-length c = search needs
+same-length-2 : tie.Need-same-length-2
+same-length-2 c = search needs
 
-returns-3 : tie.Need-returns-3
-unfolding entryOf otherKind
-returns-3 c =
-    let x = c .before .before .before .before .before in
+returns-4 : tie.Need-returns-4
+unfolding otherKind
+returns-4 c =
+    let t = c .before .before .before in
+    let x = t .before .before .before in
     let q = x .before .before in
     let a = q .before .before .before .before .args in
     let s = now (a .list) in
     let w : 20 ≤ length (drop (a .at + 1) s) = rw (length-drop (a .at + 1) s) (q .before .if1 .left) in
     let f : length (firstEntries s (a .n)) < mostRecords = rw (first-count s (a .n)) (q .if2 .left) in
     let e = rw (tail-part s (a .at + 1)) at (c .entry-fault .ensures) in
-    record { told = rw (fault-whole _ _ _ w f, e, x .seen-or-added .ensures .told, seen-repeated); added = λ u. x .seen-or-added .ensures .added (or-none (not (eqb (getD s (a .at) 0) 16) || c .entry-fault .result) _ u .1) }
+    record { told = rw (fault-new _ _ _ w f (sym (repeated-is x) ∙ t .if3 .left), e); added = λ u. x .seen-or-added .ensures .added (t .if3 .left) }
 
 pub record-fault-spec : {M : Type 1} → statement M
 record-fault-spec =
@@ -75,10 +88,12 @@ record-fault-spec =
     returns
     returns-2
     seen-or-added-requires
+    same-length
+    returns-3
     shared-slice-read-result
     sub-entry-fault
     part-entry-fault-start
     part-entry-fault-end
     entry-fault-requires
-    same-length
-    returns-3)
+    same-length-2
+    returns-4)
