@@ -1,15 +1,15 @@
 -- Row 14 on one record: what it leaves of a record that passes, and the conditions as the code tests them. Assumes nothing.
 use Prim.Native.Nat.{ℕ, zero, suc, _+_, _*_, _≤_, _<_}
-use mathlib.Core.Path.{_≡_, refl, sym, _∙_}
+use mathlib.Core.Path.{_≡_, refl, _∙_}
 use mathlib.Core.Bool.{Bool, true, false, _||_, or-assoc, or-comm, or-false, or-true}
 use mathlib.Core.List.{List}
-use native.Mathlib.Nat.{add-zero, mul-suc, mul-zero}
 use native.Mathlib.Omega.{arith}
-use borrow.Author.Tests.{eq-eqb, eqb-true, le-ltb, leb-false, lt-leb, lt-ltb, ltb-false, not-false}
+use borrow.Author.Tests.{eq-eqb, eqb-true, le-leb, le-ltb, leb-false, lt-leb, lt-ltb, ltb-false, not-false}
 use lib.IntN.{natAbs}
 use lib.ListN.{length}
 use lib.Seq.{length-take-le}
-use Rattle.names.specs.Names.{among, ifB, nameAt, nameOk, sameList}
+use Rattle.names.specs.Names.{among, nameAt, nameOk, sameList}
+use Rattle.names.proofs.Laws.{among-last}
 use Rattle.entitlements.specs.Entitlements.{Entry, entryKind, bodyLength, recordLength, mostRecords, mostValue, entryOf, cutShort, otherKind, badName, outOfRange, repeated, surplus, recordFault}
 use Rattle.entitlements.specs.Steps.{firstEntries}
 
@@ -66,28 +66,22 @@ module _ (es : List Entry) (k : ℕ) (r : List ℕ) where
   unfolding recordFault cutShort
   fault-cut h = rw (lt-ltb _ _ h)
 
-  -- name and value are tested together
-  pub fault-whole : bodyLength ≤ length r →
-      recordFault es k r ≡ (otherKind k || (badName (entryOf r .name) || outOfRange (entryOf r .value)) || repeated es (entryOf r .name) || surplus es)
-  unfolding recordFault cutShort
-  fault-whole h = rw (le-ltb (length r) bodyLength h, or-assoc (otherKind k) (badName (entryOf r .name)) (outOfRange (entryOf r .value)))
+  pub fault-full : mostRecords ≤ length es → recordFault es k r ≡ true
+  unfolding recordFault surplus
+  fault-full h = rw (le-leb mostRecords (length es) h, or-true)
+
+  pub fault-twice : repeated es (entryOf r .name) ≡ true → recordFault es k r ≡ true
+  unfolding recordFault
+  fault-twice e = rw (e, or-true)
+
+  -- of a whole record with a new name, where there is room for it, kind, name and value are left to test; the last two are tested together
+  pub fault-new : bodyLength ≤ length r → length es < mostRecords → repeated es (entryOf r .name) ≡ false →
+      recordFault es k r ≡ (otherKind k || (badName (entryOf r .name) || outOfRange (entryOf r .value)))
+  unfolding recordFault cutShort surplus
+  fault-new h g e =
+      rw (le-ltb (length r) bodyLength h, lt-leb mostRecords (length es) g, e, or-false, or-false) (or-assoc (otherKind k) (badName (entryOf r .name)) (outOfRange (entryOf r .value)))
 
 -- a name among those of the first n records: the code goes forwards, the definition back from the latest
-if-or : (a b : Bool) → ifB a true b ≡ (b || a)
-if-or true b = sym (or-true b)
-if-or false b = sym (or-false b)
-
-among-last : (s name : List ℕ) (at stride n : ℕ) → among s name at stride (suc n) ≡ (among s name at stride n || sameList (nameAt s (at + stride * n)) name)
-unfolding among
-among-last s name at stride zero = rw (mul-zero, add-zero) (if-or (sameList (nameAt s at) name) false)
-among-last s name at stride (suc n) =
-    let e : at + (stride * n + stride) ≡ at + stride + stride * n = omega arith in
-    rw (mul-suc, among-last s name (at + stride) stride n, e) (if-later (sameList (nameAt s at) name) (among s name (at + stride) stride n) _)
-  where
-    if-later : (a b c : Bool) → ifB a true (b || c) ≡ (ifB a true b || c)
-    if-later true b c = refl
-    if-later false b c = refl
-
 pub seen-repeated : (s name : List ℕ) (n : ℕ) → among s name 1 recordLength n ≡ repeated (firstEntries s n) name
 unfolding repeated firstEntries entryOf among
 seen-repeated s name zero = refl

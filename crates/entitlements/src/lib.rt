@@ -4,7 +4,8 @@ ghost use mathlib.Core.Bool.{false, _||_};
 ghost use Prim.Native.Nat.{_+_, _*_, _≤_, _<_};
 ghost use lib.ListN.{length, drop, getD};
 ghost use Rattle.entitlements.specs.Entitlements.{bodyLength, recordLength, entryOf, badName, outOfRange, recordFault, row14, entriesOf, lookUp, entitlement};
-ghost use Rattle.entitlements.specs.Steps.{firstEntries};
+ghost use Rattle.index.specs.Index.{Indexed};
+ghost use Rattle.entitlements.specs.Steps.{Roomy, Judged};
 
 // What the list says of a flowgate: the Non-Monitoring RTO's entitlement in tenths of a MW, or the refusal's number.
 pub enum Entitlement {
@@ -20,6 +21,8 @@ const BODY: usize = 20;
 const RECORD: usize = BODY + 1;
 
 const MOST_RECORDS: usize = 2500;
+
+const FEW: usize = 16;
 
 const MOST_VALUE: u64 = 100_000;
 
@@ -40,33 +43,51 @@ fn entry_fault(body: &[u8]) -> bool
     !names::name_ok(names::name_at(body, 0)) | (MOST_VALUE < size)
 }
 
-// Whether the record at `at`, behind n others, meets row 14.
-fn record_fault(list: &[u8], at: usize, n: usize) -> bool
-    requires { ⌜ (at ≡ recordLength * n) × (at < length (now list)) ⌝ }
-    ensures { λ r. ⌜ r ≡ recordFault (firstEntries (now (list .entry)) n) (getD (now (list .entry)) at 0) (drop (at + 1) (now (list .entry))) ⌝ }
+// Whether the record at `at`, behind n others, meets row 14; if it does not, the table holds its name with theirs.
+fn record_fault(list: &[u8], at: usize, n: usize, mask: usize, table: &mut [u16]) -> bool
+    requires { ⌜ (at ≡ recordLength * n) × (at < length (now list)) × Roomy mask (now list) (length (now table)) × Indexed mask (now list) 1 recordLength 0 n (now table) ⌝ }
+    ensures { λ r. ⌜ Judged mask (now (list .entry)) at n r (now (table .exit)) ⌝ }
 {
     let from = at + 1;
     if list.len() - from < BODY {
         return true;
     }
-    let twice = names::seen(list, from, 1, RECORD, n);
-    (list[at] != KIND) | entry_fault(&list[from..]) | twice | (MOST_RECORDS <= n)
+    if MOST_RECORDS <= n {
+        return true;
+    }
+    if index::seen_or_added(list, from, 1, RECORD, 0, n, mask, table) {
+        return true;
+    }
+    (list[at] != KIND) | entry_fault(&list[from..])
 }
 
-// Whether a record of the list meets row 14.
-fn faulty(list: &[u8]) -> bool
+// Whether a record of the list meets row 14. The table, in which there is no name yet, has room for each.
+fn any_fault(list: &[u8], mask: usize, table: &mut [u16]) -> bool
+    requires { ⌜ Roomy mask (now list) (length (now table)) × Indexed mask (now list) 1 recordLength 0 0 (now table) ⌝ }
     ensures { λ r. ⌜ r ≡ row14 (now (list .entry)) ⌝ }
 {
     let mut at = 0;
     let mut n = 0;
     while at < list.len() {
-        if record_fault(list, at, n) {
+        if record_fault(list, at, n, mask, table) {
             return true;
         }
         at += RECORD;
         n += 1;
     }
     false
+}
+
+// Whether a record of the list meets row 14. A short list has a small table: a large one takes longer to clear than the list to check.
+fn faulty(list: &[u8]) -> bool
+    ensures { λ r. ⌜ r ≡ row14 (now (list .entry)) ⌝ }
+{
+    if list.len() <= FEW * RECORD {
+        let mut small = [0u16; 48];
+        return any_fault(list, 31, &mut small);
+    }
+    let mut large = [0u16; 6596];
+    any_fault(list, 4095, &mut large)
 }
 
 // The entitlement of the entry that bears the name, or 15, in a list that passes row 14.
@@ -77,10 +98,12 @@ fn look_up(entries: &[u8], name: &[u8]) -> Entitlement
     if name.len() != 16 {
         return Entitlement::Refused(15);
     }
+    let high = fields::be64_at(name, 0);
+    let low = fields::be64_at(name, 8);
     let mut at = 0;
     while at < entries.len() {
         let from = at + 1;
-        if names::same_at(entries, from, name, 0) {
+        if names::has_words(entries, from, high, low) {
             return Entitlement::Found(value_of(&entries[from..]));
         }
         at += RECORD;

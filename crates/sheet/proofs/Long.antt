@@ -17,7 +17,7 @@ use Rattle.layout.specs.Layout.{extent, Allowed, layoutOf}
 use Rattle.layout.proofs.ByKind.{length-most}
 use Rattle.layout.proofs.Places.{extent-is}
 use Rattle.sheet.specs.declared.Outcome.the-variants.{Accepted}
-use Rattle.sheet.specs.Sheet.{Reading, holds, fails, recordRow, frontRow, cutShort, firstRow, recordsFrom, reading, readSheet, dueOf}
+use Rattle.sheet.specs.Sheet.{Reading, holds, fails, recordRow, frontRow, cutShort, firstRow, recordsFrom, reading, readSheet, contentOf, dueOf}
 use Rattle.sheet.specs.Passed.{Passed, none, more, rowAt, Accepts, Refuses}
 use Rattle.sheet.proofs.Reach.{fronted, reach-within, reach-laid, reach-allowed}
 use Rattle.sheet.proofs.Each.{each-factor}
@@ -116,12 +116,19 @@ module _ (s : List ℕ) (n : ℕ) (enough : 27776 ≤ n) (longer : n ≤ length 
   same-reading zero f = by-reading (reading s) refl f
   same-reading (suc number) f = rw (first-take n s (omega arith), f, eqb·suc-zero number)
 
+long-reading : (s : List ℕ) (n : ℕ) → 27776 ≤ n → reading (take n s) ≡ reading s
+long-reading s n h =
+    below-or n (length s)
+    (λ a. same-reading s n h (omega arith) (firstRow s) refl)
+    (λ a. rw (take-all n s a))
+
 pub long : (s : List ℕ) (n : ℕ) → 27776 ≤ n → readSheet (take n s) ≡ readSheet s
 unfolding readSheet
-long s n h =
-    below-or n (length s)
-    (λ a. rw (same-reading s n h (omega arith) (firstRow s) refl))
-    (λ a. rw (take-all n s a))
+long s n h = rw (long-reading s n h)
+
+pub long-content : (s : List ℕ) (n : ℕ) → 27776 ≤ n → contentOf (take n s) ≡ contentOf s
+unfolding contentOf
+long-content s n h = rw (long-reading s n h)
 
 pub accepted-short : (s : List ℕ) (l : Layout) → readSheet s ≡ Accepted l → length s ≤ 27748
 accepted-short s l e = reach-short (kept s l e .accepts .passed)

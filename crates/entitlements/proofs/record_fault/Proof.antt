@@ -1,12 +1,15 @@
--- `record_fault` meets its contract: the conditions in the order of the definition. Assumes nothing.
-use Prim.Native.Nat.{_+_, _≤_}
-use mathlib.Core.Path.{sym}
+-- `record_fault` meets its contract: the conditions one after the other. Assumes nothing.
+use Prim.Native.Nat.{_+_, _≤_, _<_}
+use mathlib.Core.Bool.{true≢false}
+use mathlib.Core.Path.{_≡_, sym, _∙_}
+use native.Mathlib.Omega.{arith}
 use denote.Ref.{now}
 use borrow.Author.Needs.{needs}
 use lib.ListN.{length, drop, length-drop}
-use Rattle.entitlements.specs.Entitlements.{entryOf, otherKind, surplus}
-use Rattle.entitlements.proofs.Records.{fault-cut, fault-whole, seen-repeated}
 use Rattle.entitlements.proofs.Walk.{first-count, tail-part}
+use Rattle.entitlements.proofs.Records.{fault-cut, fault-full, fault-twice, fault-new, seen-repeated}
+use Rattle.entitlements.specs.Steps.{firstEntries}
+use Rattle.entitlements.specs.Entitlements.{mostRecords, entryOf, otherKind, repeated}
 use Rattle.entitlements.proofs.record_fault.Statement.{statement}
 use Rattle.entitlements.proofs.record_fault.Tie as tie
 
@@ -18,11 +21,32 @@ sub-if1 c = search needs
 
 returns : tie.Need-returns
 returns c =
-    let a = c .before .before .args in
-    sym (fault-cut _ _ _ (rw (length-drop (a .at + 1) (now (a .list))) (c .if1 .taken)))
+    let a = c .before .before .before .args in
+    record { told = sym (fault-cut _ _ _ (rw (length-drop (a .at + 1) (now (a .list))) (c .if1 .taken))); added = λ e. absurd (true≢false e) }
 
-seen-requires : tie.Need-seen-requires
-seen-requires c κs = search needs
+returns-2 : tie.Need-returns-2
+returns-2 c =
+    let a = c .before .before .before .before .args in
+    record { told = sym (fault-full _ _ _ (rw (first-count (now (a .list)) (a .n)) (c .if2 .taken))); added = λ e. absurd (true≢false e) }
+
+seen-or-added-requires : tie.Need-seen-or-added-requires
+seen-or-added-requires c κs =
+    let p = c .before .before .before .before .before in
+    let r = p .pre .2 .room (p .args .n) (c .before .if2 .left) (omega arith) in
+    (omega arith, omega arith, omega arith, omega arith, p .pre .3)
+
+same-length : tie.Need-same-length
+same-length c = search needs
+
+-- what the index says of the name
+repeated-is : (c : tie.After-seen-or-added) →
+    let a = c .before .before .before .before .before .before .args in
+    c .seen-or-added .result ≡ repeated (firstEntries (now (a .list)) (a .n)) (entryOf (drop (a .at + 1) (now (a .list))) .name)
+unfolding entryOf
+repeated-is c = c .seen-or-added .ensures .told ∙ seen-repeated _ _ _
+
+returns-3 : tie.Need-returns-3
+returns-3 c = record { told = sym (fault-twice _ _ _ (sym (repeated-is (c .before .before .before)) ∙ c .if3 .taken)); added = λ e. absurd (true≢false e) }
 
 shared-slice-read-result : tie.Need-shared-slice-read-result
 shared-slice-read-result c = search needs
@@ -39,15 +63,21 @@ part-entry-fault-end c = search needs
 entry-fault-requires : tie.Need-entry-fault-requires
 entry-fault-requires c κs = search needs
 
-returns-2 : tie.Need-returns-2
-unfolding entryOf otherKind surplus
-returns-2 c =
-    let p = c .before .before .before .before in
-    let a = p .before .before .args in
+same-length-2 : tie.Need-same-length-2
+same-length-2 c = search needs
+
+returns-4 : tie.Need-returns-4
+unfolding otherKind
+returns-4 c =
+    let t = c .before .before .before in
+    let x = t .before .before .before in
+    let q = x .before .before in
+    let a = q .before .before .before .before .args in
     let s = now (a .list) in
-    let w : 20 ≤ length (drop (a .at + 1) s) = rw (length-drop (a .at + 1) s) (p .if1 .left) in
+    let w : 20 ≤ length (drop (a .at + 1) s) = rw (length-drop (a .at + 1) s) (q .before .if1 .left) in
+    let f : length (firstEntries s (a .n)) < mostRecords = rw (first-count s (a .n)) (q .if2 .left) in
     let e = rw (tail-part s (a .at + 1)) at (c .entry-fault .ensures) in
-    rw (fault-whole _ _ _ w, e, c .before .before .before .seen .ensures, seen-repeated, first-count)
+    record { told = rw (fault-new _ _ _ w f (sym (repeated-is x) ∙ t .if3 .left), e); added = λ u. x .seen-or-added .ensures .added (t .if3 .left) }
 
 pub record-fault-spec : {M : Type 1} → statement M
 record-fault-spec =
@@ -56,10 +86,14 @@ record-fault-spec =
     add-from
     sub-if1
     returns
-    seen-requires
+    returns-2
+    seen-or-added-requires
+    same-length
+    returns-3
     shared-slice-read-result
     sub-entry-fault
     part-entry-fault-start
     part-entry-fault-end
     entry-fault-requires
-    returns-2)
+    same-length-2
+    returns-4)
