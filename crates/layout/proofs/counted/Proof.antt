@@ -1,9 +1,12 @@
+-- `counted` meets its contract: the counts stay far below their type's largest number. Assumes nothing.
 use native.Mathlib.Omega.{arith}
 use borrow.Author.Needs.{needs}
 use Rattle.layout.specs.Layout.{counted}
 use Rattle.layout.proofs.Places.{extent-is}
 use Rattle.layout.proofs.counted.Statement.{statement}
 use Rattle.layout.proofs.counted.Tie as tie
+
+-- `counted` meets its contract: the counts stay far below their type's largest number. Assumes nothing.
 
 one-if-requires : tie.Need-one-if-requires
 one-if-requires c κs = search needs

@@ -1,3 +1,4 @@
+-- `first_of` meets its contract. The loop's invariant: the kinds below k end at `first`. Assumes nothing.
 use Prim.Native.Nat.{_+_, _*_, _-_, _≤_}
 use mathlib.Core.Path.{_≡_, sym}
 use native.Mathlib.Omega.{arith}
@@ -6,6 +7,8 @@ use Rattle.layout.specs.Layout.{firstOf, extent}
 use Rattle.layout.proofs.Places.{first-one, first-next, first-most}
 use Rattle.layout.proofs.first_of.Statement.{statement}
 use Rattle.layout.proofs.first_of.Tie as tie
+
+-- `first_of` meets its contract. The loop's invariant: the kinds below k end at `first`. Assumes nothing.
 
 abbrev Inv-loop : tie.InvT-loop
 Inv-loop l kind first₀ k₀ first k = (1 ≤ k) × (k ≤ kind) × (first ≡ firstOf l k)

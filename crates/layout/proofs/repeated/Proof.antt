@@ -1,3 +1,4 @@
+-- `repeated` meets its contract: the names at the places are the content's. Assumes nothing.
 use Prim.Native.Nat.{_-_, _+_, _*_}
 use mathlib.Core.Path.{_≡_, sym}
 use native.Mathlib.Omega.{arith}
@@ -7,6 +8,8 @@ use Rattle.layout.specs.Layout.{firstOf}
 use Rattle.layout.proofs.Names.{name-room, repeated-never, repeated-at}
 use Rattle.layout.proofs.repeated.Statement.{statement}
 use Rattle.layout.proofs.repeated.Tie as tie
+
+-- `repeated` meets its contract: the names at the places are the content's. Assumes nothing.
 
 -- the record stands behind the others of its kind
 behind : (c : tie.After-size-of) → c .before .before .before .before .args .at ≡ firstOf (c .before .before .before .before .args .l) (c .before .before .before .before .args .kind) + c .size-of .result * c .before .count-of .result

@@ -1,3 +1,4 @@
+-- `body_row` meets its contract, kind by kind. Assumes nothing.
 use mathlib.Core.Path.{_≡_}
 use borrow.Author.Needs.{needs}
 use Rattle.layout.proofs.ByKind.{sixth}
@@ -5,6 +6,8 @@ use Rattle.records.specs.Bodies.{byKind}
 use Rattle.sheet.specs.Sheet.{bodyRow}
 use Rattle.sheet.proofs.body_row.Statement.{statement}
 use Rattle.sheet.proofs.body_row.Tie as tie
+
+-- `body_row` meets its contract, kind by kind. Assumes nothing.
 
 -- the last arm
 is-factor : (c : tie.At-match-rest) → c .before .before .args .kind ≡ 6

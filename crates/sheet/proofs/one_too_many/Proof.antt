@@ -1,3 +1,4 @@
+-- `one_too_many` meets its contract. Assumes nothing.
 use mathlib.Core.Path.{sym}
 use lib.Dec.{eqb}
 use borrow.Author.Tests.{ne-eqb}
@@ -6,6 +7,8 @@ use Rattle.sheet.specs.Sheet.{oneTooMany}
 use Rattle.sheet.proofs.Front.{never}
 use Rattle.sheet.proofs.one_too_many.Statement.{statement}
 use Rattle.sheet.proofs.one_too_many.Tie as tie
+
+-- `one_too_many` meets its contract. Assumes nothing.
 
 returns : tie.Need-returns
 unfolding oneTooMany byKind

@@ -1,3 +1,4 @@
+-- `record_row` meets its contract: where rows 2 to 5 pass the body is whole and stands behind the others of its kind. Assumes nothing.
 use Prim.Native.Nat.{_+_, _-_}
 use mathlib.Core.Path.{sym, _∙_}
 use native.Mathlib.Omega.{arith}
@@ -14,6 +15,8 @@ use Rattle.sheet.proofs.Reach.{at-laid, at-allowed}
 use Rattle.sheet.proofs.Front.{Fronted, front-pass, front-split}
 use Rattle.sheet.proofs.record_row.Statement.{statement}
 use Rattle.sheet.proofs.record_row.Tie as tie
+
+-- `record_row` meets its contract: where rows 2 to 5 pass the body is whole and stands behind the others of its kind. Assumes nothing.
 
 -- rows 2 to 5 have passed
 passes : (c : tie.Else1) → Fronted (c .before .before .before .before .args .l) (c .before .before .before .before .args .last) (byteAt (now (c .before .before .before .before .args .s)) (c .before .before .before .before .args .at)) (length (now (c .before .before .before .before .args .s)) - (c .before .before .before .before .args .at + 1))
