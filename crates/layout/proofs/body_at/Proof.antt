@@ -10,8 +10,6 @@ use Rattle.layout.proofs.Places.{within}
 use Rattle.layout.proofs.body_at.Statement.{statement}
 use Rattle.layout.proofs.body_at.Tie as tie
 
--- `body_at` meets its contract: the record ends within the sheet. Assumes nothing.
-
 -- the record ends within the sheet
 ends : (c : tie.After-size-of) → c .before .first-of .result + c .size-of .result * c .before .before .before .args .i + c .size-of .result ≤ length (now (c .before .before .before .args .s))
 ends c =

@@ -6,8 +6,6 @@ use Rattle.layout.proofs.Places.{extent-is}
 use Rattle.layout.proofs.counted.Statement.{statement}
 use Rattle.layout.proofs.counted.Tie as tie
 
--- `counted` meets its contract: the counts stay far below their type's largest number. Assumes nothing.
-
 one-if-requires : tie.Need-one-if-requires
 one-if-requires c κs = search needs
 

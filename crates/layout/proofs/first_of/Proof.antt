@@ -8,8 +8,6 @@ use Rattle.layout.proofs.Places.{first-one, first-next, first-most}
 use Rattle.layout.proofs.first_of.Statement.{statement}
 use Rattle.layout.proofs.first_of.Tie as tie
 
--- `first_of` meets its contract. The loop's invariant: the kinds below k end at `first`. Assumes nothing.
-
 abbrev Inv-loop : tie.InvT-loop
 Inv-loop l kind first₀ k₀ first k = (1 ≤ k) × (k ≤ kind) × (first ≡ firstOf l k)
 

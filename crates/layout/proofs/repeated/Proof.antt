@@ -9,8 +9,6 @@ use Rattle.layout.proofs.Names.{name-room, repeated-never, repeated-at}
 use Rattle.layout.proofs.repeated.Statement.{statement}
 use Rattle.layout.proofs.repeated.Tie as tie
 
--- `repeated` meets its contract: the names at the places are the content's. Assumes nothing.
-
 -- the record stands behind the others of its kind
 behind : (c : tie.After-size-of) → c .before .before .before .before .args .at ≡ firstOf (c .before .before .before .before .args .l) (c .before .before .before .before .args .kind) + c .size-of .result * c .before .count-of .result
 behind c = rw (c .size-of .ensures .0, c .before .count-of .ensures) (c .before .before .before .before .pre .2)

@@ -5,8 +5,6 @@ use Rattle.layout.proofs.ByKind.{length-most}
 use Rattle.layout.proofs.size_of.Statement.{statement}
 use Rattle.layout.proofs.size_of.Tie as tie
 
--- `size_of` meets its contract. Assumes nothing.
-
 body-length-requires : tie.Need-body-length-requires
 body-length-requires c κs = search needs
 

@@ -7,8 +7,6 @@ use Rattle.sheet.specs.Sheet.{bodyRow}
 use Rattle.sheet.proofs.body_row.Statement.{statement}
 use Rattle.sheet.proofs.body_row.Tie as tie
 
--- `body_row` meets its contract, kind by kind. Assumes nothing.
-
 -- the last arm
 is-factor : (c : tie.At-match-rest) → c .before .before .args .kind ≡ 6
 is-factor c =

@@ -4,8 +4,6 @@ use Rattle.sheet.specs.Sheet.{endRow}
 use Rattle.sheet.proofs.end_row.Statement.{statement}
 use Rattle.sheet.proofs.end_row.Tie as tie
 
--- `end_row` meets its contract. Assumes nothing.
-
 due-count-requires : tie.Need-due-count-requires
 due-count-requires c κs = search needs
 

@@ -10,8 +10,6 @@ use Rattle.sheet.proofs.Accepted.{extent-is, allowed, all-due, factor-i
 use Rattle.sheet.proofs.factor_at.Statement.{statement}
 use Rattle.sheet.proofs.factor_at.Tie as tie
 
--- `factor_at` meets its contract: the factor stands where its key is due. Assumes nothing.
-
 -- the sheet has the factor that is due there
 there : (c : tie.After-due-place) → c .due-place .result < c .before .before .args .l .factors
 there c = omega (arith, c .due-place .ensures .below, all-due _ _ (c .before .before .pre .0))

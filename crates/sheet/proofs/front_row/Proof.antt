@@ -4,8 +4,6 @@ use Rattle.sheet.specs.Sheet.{frontRow}
 use Rattle.sheet.proofs.front_row.Statement.{statement}
 use Rattle.sheet.proofs.front_row.Tie as tie
 
--- `front_row` meets its contract. Assumes nothing.
-
 body-length-requires : tie.Need-body-length-requires
 body-length-requires c κs = search needs
 

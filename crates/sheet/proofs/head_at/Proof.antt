@@ -5,8 +5,6 @@ use Rattle.sheet.proofs.Accepted.{extent-is, some-head, head-is}
 use Rattle.sheet.proofs.head_at.Statement.{statement}
 use Rattle.sheet.proofs.head_at.Tie as tie
 
--- `head_at` meets its contract. Assumes nothing.
-
 body-at-requires : tie.Need-body-at-requires
 unfolding byKind
 body-at-requires c κs =

@@ -8,8 +8,6 @@ use Rattle.sheet.proofs.Front.{never}
 use Rattle.sheet.proofs.one_too_many.Statement.{statement}
 use Rattle.sheet.proofs.one_too_many.Tie as tie
 
--- `one_too_many` meets its contract. Assumes nothing.
-
 returns : tie.Need-returns
 unfolding oneTooMany byKind
 returns c = rw (c .before .match .keys1)

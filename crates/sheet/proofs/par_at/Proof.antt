@@ -5,8 +5,6 @@ use Rattle.sheet.proofs.Accepted.{extent-is, par-is}
 use Rattle.sheet.proofs.par_at.Statement.{statement}
 use Rattle.sheet.proofs.par_at.Tie as tie
 
--- `par_at` meets its contract. Assumes nothing.
-
 body-at-requires : tie.Need-body-at-requires
 unfolding byKind
 body-at-requires c κs =

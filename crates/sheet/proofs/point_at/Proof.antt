@@ -5,8 +5,6 @@ use Rattle.sheet.proofs.Accepted.{extent-is, point-is}
 use Rattle.sheet.proofs.point_at.Statement.{statement}
 use Rattle.sheet.proofs.point_at.Tie as tie
 
--- `point_at` meets its contract. Assumes nothing.
-
 body-at-requires : tie.Need-body-at-requires
 unfolding byKind
 body-at-requires c κs =

@@ -15,8 +15,6 @@ use Rattle.sheet.proofs.Reach.{at-laid, at-allowed, at-fronted, at-next
 use Rattle.sheet.proofs.read.Statement.{statement}
 use Rattle.sheet.proofs.read.Tie as tie
 
--- `read` meets its contract. The loop's invariant: the records before `at` have passed, `l` counts them, and what is left answers for the whole. Assumes nothing.
-
 abbrev Inv-loop : tie.InvT-loop
 Inv-loop s l₀ last₀ at₀ l last at = Passed s at last (contentAt s l) × (recordsFrom at 0 last (contentAt s l) (drop at s) ≡ reading s)
 

@@ -16,8 +16,6 @@ use Rattle.sheet.proofs.Front.{Fronted, front-pass, front-split}
 use Rattle.sheet.proofs.record_row.Statement.{statement}
 use Rattle.sheet.proofs.record_row.Tie as tie
 
--- `record_row` meets its contract: where rows 2 to 5 pass the body is whole and stands behind the others of its kind. Assumes nothing.
-
 -- rows 2 to 5 have passed
 passes : (c : tie.Else1) → Fronted (c .before .before .before .before .args .l) (c .before .before .before .before .args .last) (byteAt (now (c .before .before .before .before .args .s)) (c .before .before .before .before .args .at)) (length (now (c .before .before .before .before .args .s)) - (c .before .before .before .before .args .at + 1))
 passes c = front-pass _ _ _ _ 0 (sym (c .before .front-row .ensures) ∙ c .if1 .left) .0
