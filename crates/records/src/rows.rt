@@ -1,8 +1,7 @@
 // Rows 6 to 11 of one record, by its fields.
 ghost use mathlib.Core.Path.{_≡_};
 ghost use mathlib.Core.Bool.{not};
-ghost use Prim.Native.Nat.{_≤_};
-ghost use Rattle.due.specs.Due.{dueList};
+ghost use Rattle.due.specs.Due.{dueList, Few};
 ghost use Rattle.records.specs.Content.{bears};
 ghost use Rattle.records.specs.Rows.{row, outside, beyond, badName, unlisted, noZoneOf, placeUnknown, headRow, zoneRow, unitRow, pointRow, parRow, factorRow};
 use super::Factor;
@@ -122,7 +121,7 @@ fn bears(f: Factor, d: due::Due) -> bool
 
 // Rows 10 and 11 of the factor behind n others.
 pub fn factor_row(zones: usize, units: usize, points: usize, pars: usize, n: usize, f: Factor) -> u8
-    requires { ⌜ (units ≤ 256) × (zones ≤ 32) × (points ≤ 32) × (pars ≤ 8) ⌝ }
+    requires { ⌜ Few zones units points pars ⌝ }
     ensures { λ r. ⌜ r ≡ factorRow (dueList zones units points pars) n f ⌝ }
 {
     if due::due_count(zones, units, points, pars) <= n {

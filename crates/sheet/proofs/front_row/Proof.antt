@@ -1,3 +1,4 @@
+-- `front_row` meets its contract. Assumes nothing.
 use borrow.Author.Needs.{needs}
 use Rattle.sheet.specs.Sheet.{frontRow}
 use Rattle.sheet.proofs.front_row.Statement.{statement}

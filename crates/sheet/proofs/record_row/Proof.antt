@@ -1,3 +1,4 @@
+-- `record_row` meets its contract: where rows 2 to 5 pass the body is whole and stands behind the others of its kind. Assumes nothing.
 use Prim.Native.Nat.{_+_, _-_}
 use mathlib.Core.Path.{sym, _∙_}
 use native.Mathlib.Omega.{arith}

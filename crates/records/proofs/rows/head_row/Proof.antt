@@ -1,3 +1,4 @@
+-- `head_row` meets its contract. Assumes nothing.
 use borrow.Author.Needs.{needs}
 use Rattle.records.specs.Rows.{headRow}
 use Rattle.records.proofs.rows.head_row.Statement.{statement}

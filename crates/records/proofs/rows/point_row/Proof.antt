@@ -1,3 +1,4 @@
+-- `point_row` meets its contract. Assumes nothing.
 use borrow.Author.Needs.{needs}
 use Rattle.records.specs.Rows.{pointRow}
 use Rattle.records.proofs.rows.point_row.Statement.{statement}

@@ -1,3 +1,4 @@
+-- `unit_row` meets its contract. Assumes nothing.
 use borrow.Author.Needs.{needs}
 use Rattle.records.specs.Rows.{unitRow}
 use Rattle.records.proofs.rows.unit_row.Statement.{statement}

@@ -1,3 +1,4 @@
+-- `zone_row` meets its contract. Assumes nothing.
 use borrow.Author.Needs.{needs}
 use Rattle.records.specs.Rows.{zoneRow}
 use Rattle.records.proofs.rows.zone_row.Statement.{statement}
