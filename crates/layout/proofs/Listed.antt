@@ -4,7 +4,7 @@ use mathlib.Core.Path.{_≡_, refl, sym, ap, _∙_}
 use mathlib.Core.List.{List}
 use native.Mathlib.Omega.{arith}
 use lib.ListN.{length, replicate, length-replicate}
-use Rattle.due.proofs.Laws.{below-or}
+use Rattle.due.proofs.Tab.{below-or}
 use Rattle.records.specs.Bodies.{byKind}
 use Rattle.index.specs.Index.{Indexed}
 use Rattle.index.proofs.Laws.{none, turned}
