@@ -12,14 +12,14 @@ use lib.IntN.{ℤ, pos, negsuc, natAbs, _-ℤ_}
 use lib.Signed.{leZ, ltZ}
 use lib.ListN.{length, getD}
 use Rattle.integers.specs.Sum.{sumTo}
-use Rattle.integers.proofs.Machine.{Op, num-u, sub}
-use Rattle.integers.proofs.Sums.{sum-same, sum-pick, sum-swap}
+use Rattle.integers.proofs.Machine.{Op, rd, num-is, num-u, sub}
+use Rattle.integers.proofs.Sums.{sum-same, sum-pick, sum-swap, sum-abs}
 use Rattle.records.specs.declared.Place.{Place}
 use Rattle.records.specs.declared.Place.the-variants.{Proxy, Line}
 use Rattle.records.specs.Content.{Content, zone, unit, point}
 use Rattle.records.specs.Valid.{Valid, LineFits}
 use Rattle.figures.specs.Balance.{onLine, atProxy, totalLoad, importInto, lineImports, zoneLoad, netLoad, proxyImport, proxyImports, finalLoad, output, outputIn, zoneOutput, exportFrom, lineExports, zoneGeneration, netGeneration, proxyExport, proxyExports, finalGeneration, grossOutput, grossLoad}
-use Rattle.balance.specs.Ledger.{loads, outputs, imports, exports, numberOf, bookingOf, bookings, bookedAt, sumAt, Sums, Small, netAt}
+use Rattle.balance.specs.Ledger.{loads, outputs, imports, exports, numberOf, pointBooking, bookingOf, bookings, bookedAt, sumAt, Sums, Small, netAt}
 
 -- a booking at a zone's number, and at the proxies'
 line-is : (p : Place) (z x : ℕ) → cond (eqb (numberOf p) (z + 1)) (pos x) (pos 0) ≡ onLine p (z + 1) x
@@ -38,11 +38,11 @@ module _ (c : Content) (z : ℕ) where
   outputs-are = refl
 
   pub imports-are : sumAt c imports (z + 1) ≡ lineImports c z
-  unfolding sumAt bookings bookedAt bookingOf lineImports importInto
+  unfolding sumAt bookings bookedAt bookingOf pointBooking lineImports importInto
   imports-are = sum-same _ _ (length (c .points)) (λ i l. line-is (point c i .place) z (point c i .import))
 
   pub exports-are : sumAt c exports (z + 1) ≡ lineExports c z
-  unfolding sumAt bookings bookedAt bookingOf lineExports exportFrom
+  unfolding sumAt bookings bookedAt bookingOf pointBooking lineExports exportFrom
   exports-are = sum-same _ _ (length (c .points)) (λ i l. line-is (point c i .place) z (point c i .export))
 
   pub loads-are : z < length (c .zones) → sumAt c loads (z + 1) ≡ totalLoad c z
@@ -54,11 +54,11 @@ module _ (c : Content) (z : ℕ) where
 
 module _ (c : Content) (v : Valid c) where
   pub proxy-imports-are : sumAt c imports 0 ≡ proxyImports c
-  unfolding sumAt bookings bookedAt bookingOf proxyImports proxyImport
+  unfolding sumAt bookings bookedAt bookingOf pointBooking proxyImports proxyImport
   proxy-imports-are = sum-same _ _ (length (c .points)) (λ i l. proxy-is (point c i .place) _ (point c i .import) (v .point-fits i l .place))
 
   pub proxy-exports-are : sumAt c exports 0 ≡ proxyExports c
-  unfolding sumAt bookings bookedAt bookingOf proxyExports proxyExport
+  unfolding sumAt bookings bookedAt bookingOf pointBooking proxyExports proxyExport
   proxy-exports-are = sum-same _ _ (length (c .points)) (λ i l. proxy-is (point c i .place) _ (point c i .export) (v .point-fits i l .place))
 
   -- every unit is in one of the sheet's zones
@@ -83,6 +83,14 @@ module _ (p m : List ℕ) (hp : Small p) (hm : Small m) (z : ℕ) (h : z < 32) w
 
   pub net-most : natAbs (netAt p m z) ≤ 2048000000
   net-most = net .num .abs
+
+-- a side's sums, and what is left of them behind the proxies
+module _ (p m : List ℕ) (hp : Small p) (hm : Small m) (zones : ℕ) (h : zones ≤ 32) where
+  pub net-sum-most : natAbs (sumTo (netAt p m) zones) ≤ 65536000000
+  net-sum-most = omega (arith, sum-abs (netAt p m) 2048000000 zones (λ k l. net-most p m hp hm k (omega arith)))
+
+  pub left : (r : ℤ) → r ≡ sumTo (netAt p m) zones → Op (rd r -ℤ toZ w64 (getD m 0 0)) (sumTo (netAt p m) zones -ℤ pos (getD m 0 0)) 66560000000
+  left r e = sub (num-is r _ 65536000000 e net-sum-most (lit< tt)) (num-u _ 1024000000 (hm .most 0 (omega arith)) (lit< tt)) (lit< tt)
 
 -- the test r < 0 on a number that is x, as `atLeastZero` reads it
 pub below : (r x : ℤ) → r ≡ x → ltZ r (pos 0) ≡ true → leZ (pos 0) x ≡ false

@@ -10,7 +10,9 @@ use lib.ListN.{length, getD}
 use Rattle.integers.specs.Sum.{sumTo}
 use Rattle.records.specs.declared.Place.{Place}
 use Rattle.records.specs.declared.Place.the-variants.{Proxy, Line}
+use Rattle.records.specs.declared.Point.{Point}
 use Rattle.records.specs.Content.{Content, zone, unit, point}
+use Rattle.figures.specs.Balance.{zoneLoad}
 use Rattle.balance.specs.declared.Booking.{Booking}
 
 -- the ledgers
@@ -30,13 +32,15 @@ unfoldable pub numberOf : Place → ℕ
 numberOf Proxy = 0
 numberOf (Line n) = n
 
+unfoldable pub pointBooking : Point → ℕ → Booking
+pointBooking p ledger = cond (eqb ledger imports) (record { number = numberOf (p .place); amount = p .import }) (record { number = numberOf (p .place); amount = p .export })
+
 -- an amount and the number at which it is booked: a zone's load with its losses at the zone, a unit's output at its zone, a point's import or export at its place
 unfoldable pub bookingOf : Content → ℕ → ℕ → Booking
 bookingOf c ledger i =
     cond (eqb ledger loads) (record { number = i + 1; amount = zone c i .load + zone c i .losses })
     (cond (eqb ledger outputs) (record { number = unit c i .zone; amount = unit c i .output })
-    (cond (eqb ledger imports) (record { number = numberOf (point c i .place); amount = point c i .import })
-    (record { number = numberOf (point c i .place); amount = point c i .export })))
+    (pointBooking (point c i) ledger))
 
 -- how many bookings a ledger has
 unfoldable pub bookings : Content → ℕ → ℕ
@@ -60,3 +64,9 @@ pub record Small (sums : List ℕ) : Type 0 where
 -- what one array has more than another at the zone of index z
 unfoldable pub netAt : List ℕ → List ℕ → ℕ → ℤ
 netAt plus minus z = pos (getD plus (z + 1) 0) -ℤ pos (getD minus (z + 1) 0)
+
+-- two arrays from which every zone load can be read: what a zone has of load and losses, and what comes in by its scheduled lines
+pub record ZoneLoads (c : Content) (plus minus : List ℕ) : Type 0 where
+  pub plus-small : Small plus
+  pub minus-small : Small minus
+  pub load : (z : ℕ) → z < length (c .zones) → netAt plus minus z ≡ zoneLoad c z

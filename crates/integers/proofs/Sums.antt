@@ -93,6 +93,12 @@ pub all-zero : (p : ℕ → Bool) → allTo p 0 ≡ true
 unfolding allTo
 all-zero p = refl
 
+-- tests that agree below n
+pub all-same : (p q : ℕ → Bool) (n : ℕ) → ((i : ℕ) → i < n → p i ≡ q i) → allTo p n ≡ allTo q n
+unfolding allTo
+all-same p q zero h = refl
+all-same p q (suc n) h = rw (all-same p q n (λ i l. h i (omega arith)), h n (omega arith))
+
 and-false : (a : Bool) → a && false ≡ false
 and-false true = refl
 and-false false = refl

@@ -1,7 +1,7 @@
 -- What a sheet holds: its records by kind, in their order (document 01, 'The interval sheet'). Assumes nothing.
 use Prim.Native.Nat.{ℕ}
 use mathlib.Core.Bool.{Bool, true, false, _&&_, cond}
-use mathlib.Core.List.{List, [], _∷_}
+use mathlib.Core.List.{List, [], _∷_, _++_, map}
 use lib.Dec.{eqb}
 use lib.IntN.{ℤ, pos}
 use lib.ListN.{getD, replicate}
@@ -13,6 +13,7 @@ use Rattle.records.specs.declared.Place.the-variants.{Proxy, Line}
 use Rattle.records.specs.declared.Point.{Point}
 use Rattle.records.specs.declared.Par.{Par}
 use Rattle.records.specs.declared.Factor.{Factor}
+use Rattle.records.specs.Bodies.{byKind, headOf, zoneOf, unitOf, pointOf, parOf, factorOf}
 
 -- an accepted sheet has one head
 pub record Content : Type 0 where
@@ -72,3 +73,29 @@ bears f target subject index = eqb (f .target) target && (eqb (f .subject) subje
 unfoldable pub factorFor : List Factor → ℕ → ℕ → ℕ → ℤ
 factorFor [] target subject index = pos 0
 factorFor (f ∷ fs) target subject index = cond (bears f target subject index) (f .factor) (factorFor fs target subject index)
+
+abbrev pub onlyIf : {A : Type 0} → Bool → A → List A
+onlyIf true a = a ∷ []
+onlyIf false a = []
+
+-- the record of a kind with the body b goes behind the others of its kind
+unfoldable pub withRecord : Content → ℕ → List ℕ → Content
+withRecord c kind b = record {
+  heads = c .heads ++ onlyIf (eqb kind 1) (headOf b);
+  zones = c .zones ++ onlyIf (eqb kind 2) (zoneOf b);
+  units = c .units ++ onlyIf (eqb kind 3) (unitOf b);
+  points = c .points ++ onlyIf (eqb kind 4) (pointOf b);
+  pars = c .pars ++ onlyIf (eqb kind 5) (parOf b);
+  factors = c .factors ++ onlyIf (eqb kind 6) (factorOf b);
+}
+
+-- the names of a kind's records, in their order
+unfoldable pub namesOf : Content → ℕ → List (List ℕ)
+namesOf c kind =
+    byKind kind
+    (map (λ (h : Head). h .name) (c .heads))
+    (map (λ (z : Zone). z .name) (c .zones))
+    (map (λ (u : Unit). u .name) (c .units))
+    (map (λ (p : Point). p .name) (c .points))
+    (map (λ (p : Par). p .name) (c .pars))
+    [] []

@@ -1,2 +1,4 @@
 pub mod Content
 pub mod Valid
+pub mod Bodies
+pub mod Rows

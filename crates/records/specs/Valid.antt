@@ -1,8 +1,11 @@
 -- What rows 1 to 13 leave of a sheet's content: every number in its range, every count within its limit, every factor due there. Assumes nothing.
 use Prim.Native.Nat.{ℕ, _+_, _≤_, _<_}
 use mathlib.Core.Path.{_≡_}
+use mathlib.Core.Bool.{true, false}
+use mathlib.Core.List.{List}
 use lib.IntN.{natAbs}
-use lib.ListN.{length}
+use lib.ListN.{length, take, getD}
+use Rattle.names.specs.Names.{nameOk}
 use Rattle.due.specs.Due.{Asked, dueList}
 use Rattle.records.specs.declared.Head.{Head}
 use Rattle.records.specs.declared.Zone.{Zone}
@@ -10,7 +13,8 @@ use Rattle.records.specs.declared.Unit.{Unit}
 use Rattle.records.specs.declared.Place.the-variants.{Line}
 use Rattle.records.specs.declared.Point.{Point}
 use Rattle.records.specs.declared.Par.{Par}
-use Rattle.records.specs.Content.{Content, head, zone, unit, point, par, factorFor}
+use Rattle.records.specs.Content.{Content, noName, head, zone, unit, point, par, factorFor}
+use Rattle.records.specs.Rows.{oneOf}
 
 pub record HeadFits (h : Head) : Type 0 where
   pub rto-least : 1 ≤ h .«monitoring_rto»
@@ -63,3 +67,8 @@ pub record Valid (c : Content) : Type 0 where
   pub par-fits : (i : ℕ) → i < length (c .pars) → ParFits (par c i)
   pub factor-fits : (target subject i : ℕ) → Asked (length (c .zones)) (length (c .units)) (length (c .points)) (length (c .pars)) target subject i →
       natAbs (factorFor (c .factors) target subject (i + 1)) ≤ 10000
+
+-- what rows 6 and 7 leave of a kind's names: each well formed, and none of those before it
+pub record NamesFit (names : List (List ℕ)) : Type 0 where
+  pub well : (i : ℕ) → i < length names → nameOk (getD names i noName) ≡ true
+  pub new : (i : ℕ) → i < length names → oneOf (getD names i noName) (take i names) ≡ false

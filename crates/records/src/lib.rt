@@ -53,3 +53,6 @@ pub struct Factor {
     pub index: u16,
     pub factor: i16,
 }
+
+pub mod bodies;
+pub mod rows;

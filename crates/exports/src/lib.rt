@@ -1,0 +1,82 @@
+// The settlement for C and Rust. Each function only calls the proved one and hands its answer on.
+ghost use mathlib.Core.Path.{_≡_};
+ghost use Rattle.sheet.specs.Sheet.{readSheet};
+ghost use Rattle.entitlements.specs.Entitlements.{entitlement};
+ghost use Rattle.settlement.specs.Promise.{Promise};
+ghost use Rattle.report.specs.Report.{reported, left};
+ghost use Rattle.exports.specs.Answers.{readAnswer, entitlementAnswer};
+use statement::Statement;
+
+// What the reader answers: 0 and the counts of an accepted sheet's records, or a refusal's number and the offending record's place.
+#[repr(C)]
+pub struct ReadAnswer {
+    pub refusal: u8,
+    pub place: usize,
+    pub zones: usize,
+    pub units: usize,
+    pub points: usize,
+    pub pars: usize,
+    pub factors: usize,
+}
+
+// What the list says of a flowgate: 0 and the entitlement in tenths of a MW, or a refusal's number.
+#[repr(C)]
+pub struct EntitlementAnswer {
+    pub refusal: u8,
+    pub value: i64,
+}
+
+#[no_mangle]
+pub extern "C" fn m2m_settle(sheet: &[u8], list: &[u8]) -> Statement
+    ensures { λ r. ⌜ Promise (now (sheet .entry)) (now (list .entry)) r ⌝ }
+{
+    settlement::settle(sheet, list)
+}
+
+#[no_mangle]
+pub extern "C" fn m2m_settle_into(sheet: &[u8], list: &[u8], out: &mut [u8]) -> Statement
+    ensures { λ r. ⌜ r ≡ reported (now (sheet .entry)) (now (list .entry)) (now (out .entry)) .statement ⌝ }
+    ensures { λ _. ⌜ now (out .exit) ≡ left (now (sheet .entry)) (now (list .entry)) (now (out .entry)) ⌝ }
+{
+    let p = report::report(sheet, list, out);
+    p.statement
+}
+
+#[no_mangle]
+pub extern "C" fn m2m_read(sheet: &[u8]) -> ReadAnswer
+    ensures { λ r. ⌜ r ≡ readAnswer (readSheet (now (sheet .entry))) ⌝ }
+{
+    match sheet::read(sheet) {
+        sheet::Outcome::Refused(row, place) => ReadAnswer {
+            refusal: row,
+            place,
+            zones: 0,
+            units: 0,
+            points: 0,
+            pars: 0,
+            factors: 0,
+        },
+        sheet::Outcome::Accepted(l) => ReadAnswer {
+            refusal: 0,
+            place: 0,
+            zones: l.zones,
+            units: l.units,
+            points: l.points,
+            pars: l.pars,
+            factors: l.factors,
+        },
+    }
+}
+
+#[no_mangle]
+pub extern "C" fn m2m_entitlement(list: &[u8], name: &[u8]) -> EntitlementAnswer
+    ensures { λ r. ⌜ r ≡ entitlementAnswer (entitlement (now (list .entry)) (now (name .entry))) ⌝ }
+{
+    match entitlements::find(list, name) {
+        entitlements::Entitlement::Refused(row) => EntitlementAnswer {
+            refusal: row,
+            value: 0,
+        },
+        entitlements::Entitlement::Found(value) => EntitlementAnswer { refusal: 0, value },
+    }
+}

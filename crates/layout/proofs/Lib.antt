@@ -1,0 +1,5 @@
+pub mod ByKind
+pub mod Places
+pub mod Names
+pub mod Laid
+pub mod Contents

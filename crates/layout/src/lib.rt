@@ -1,0 +1,95 @@
+// Where the records of a sheet stand. The sheet stays as it is: a layout says how many records there are of each kind.
+ghost use mathlib.Core.Path.{_≡_};
+ghost use Prim.Native.Nat.{_+_, _*_, _≤_, _<_, _^_};
+ghost use lib.ListN.{length, drop};
+ghost use Rattle.records.specs.Bodies.{bodyIn};
+ghost use Rattle.records.specs.Rows.{repeats};
+ghost use Rattle.layout.specs.Layout.{one, count, counted, size, firstOf, startOf, extent, bodyAt, contentAt};
+
+pub struct Layout {
+    pub heads: usize,
+    pub zones: usize,
+    pub units: usize,
+    pub points: usize,
+    pub pars: usize,
+    pub factors: usize,
+}
+
+pub fn count_of(l: Layout, kind: u8) -> usize
+    ensures { λ r. ⌜ r ≡ count l kind ⌝ }
+{
+    records::bodies::by_kind(
+        kind,
+        l.heads,
+        l.zones,
+        l.units,
+        l.points,
+        l.pars,
+        l.factors,
+        0,
+    )
+}
+
+fn size_of(kind: u8) -> usize
+    ensures { λ r. ⌜ (r ≡ size kind) × (r ≤ 28) ⌝ }
+{
+    records::bodies::body_length(kind) + 1
+}
+
+fn one_if(met: bool) -> usize
+    ensures { λ r. ⌜ (r ≡ one met) × (r ≤ 1) ⌝ }
+{
+    if met { 1 } else { 0 }
+}
+
+// One record of a kind more.
+pub fn counted(l: Layout, kind: u8) -> Layout
+    requires { ⌜ extent l < 2 ^ 64 ⌝ }
+    ensures { λ r. ⌜ r ≡ counted l kind ⌝ }
+{
+    Layout {
+        heads: l.heads + one_if(kind == 1),
+        zones: l.zones + one_if(kind == 2),
+        units: l.units + one_if(kind == 3),
+        points: l.points + one_if(kind == 4),
+        pars: l.pars + one_if(kind == 5),
+        factors: l.factors + one_if(kind == 6),
+    }
+}
+
+// Where the records of a kind begin.
+fn first_of(l: Layout, kind: u8) -> usize
+    requires { ⌜ (extent l < 2 ^ 64) × (1 ≤ kind) × (kind ≤ 6) ⌝ }
+    ensures { λ r. ⌜ r ≡ firstOf l kind ⌝ }
+{
+    let mut first = 0;
+    let mut k = 1;
+    while k < kind {
+        first += size_of(k) * count_of(l, k);
+        k += 1;
+    }
+    first
+}
+
+// The body of the i-th record of a kind, from 0: the part of the sheet that starts behind the record's kind byte.
+pub fn body_at(s: &[u8], l: Layout, kind: u8, i: usize) -> &[u8]
+    requires { ⌜ (extent l ≤ length (now s)) × (1 ≤ kind) × (kind ≤ 6) × (i < count l kind) ⌝ }
+    ensures { λ r. ⌜ now r ≡ bodyAt (now (s .entry)) l kind i ⌝ }
+{
+    let from = first_of(l, kind) + size_of(kind) * i + 1;
+    &s[from..from + records::bodies::body_length(kind)]
+}
+
+// Whether the record at `at`, behind the others of its kind, has the name of one of them.
+pub fn repeated(s: &[u8], l: Layout, kind: u8, at: usize) -> bool
+    requires { ⌜ (1 ≤ kind) × (kind ≤ 6) × (at ≡ startOf l kind (count l kind)) × (at + size kind ≤ length (now s)) ⌝ }
+    ensures { λ r. ⌜ r ≡ repeats (contentAt (now (s .entry)) l) kind (bodyIn kind (drop (at + 1) (now (s .entry)))) ⌝ }
+{
+    if kind == 6 {
+        return false;
+    }
+    let n = count_of(l, kind);
+    let stride = size_of(kind);
+    let first = at - stride * n + 1;
+    names::seen(s, at + 1, first, stride, n)
+}

@@ -1,0 +1,4 @@
+pub mod Parts
+pub mod Printing
+pub mod Example
+pub mod Longest

@@ -1,0 +1,80 @@
+-- `print` ends in one of three ways. The scratch array begins with the listing. Assumes nothing.
+use mathlib.Core.List.{List}
+use mathlib.Core.Path.{_≡_, ap}
+use Prim.Native.Nat.{ℕ}
+use native.Mathlib.Omega.{arith}
+use borrow.Author.Needs.{needs}
+use lib.ListN.{length, take}
+use Rattle.statement.specs.declared.Statement.{Statement}
+use Rattle.writers.proofs.Writing.{counted, front, renamed}
+use Rattle.listing.specs.Listing.{listing}
+use Rattle.listing.proofs.Printing.{refused-before, too-short, fits}
+use Rattle.listing.proofs.print.Statement.{statement}
+use Rattle.listing.proofs.print.Tie as tie
+
+module _ (c : tie.After-put-listing) where
+  abbrev s : Statement
+  s = c .before .before .before .before .before .args .s
+
+  abbrev out : List ℕ
+  out = c .before .before .before .before .before .args .out .now
+
+  accepted : s .refusal ≡ 0
+  accepted = c .before .before .if1 .left
+
+  lines : take (c .put-listing .result) (c .put-listing .last .1 .0) ≡ listing s
+  lines = front (c .put-listing .ensures .0)
+
+returns : tie.Need-returns
+returns c = let i = c .before .before .before .args in refused-before (i .s) (i .out .now) (c .if1 .taken)
+
+slice-aggregate-put-listing : tie.Need-slice-aggregate-put-listing
+slice-aggregate-put-listing c = search needs
+
+put-listing-requires : tie.Need-put-listing-requires
+put-listing-requires c κs = search needs
+
+refused-requires : tie.Need-refused-requires
+refused-requires c κs = search needs
+
+returns-2 : tie.Need-returns-2
+returns-2 c =
+    let p = c .before .before .before in
+    let e = p .put-listing .ensures .0 .count in
+    rw (c .refused .ensures) (too-short (s p) (out p) (accepted p) (omega arith))
+
+array-share-prefix-scratch : tie.Need-array-share-prefix-scratch
+array-share-prefix-scratch c = search needs
+
+slice-aggregate-put : tie.Need-slice-aggregate-put
+slice-aggregate-put c = counted (c .before .before .before .put-listing .ensures .0) .1
+
+put-requires : tie.Need-put-requires
+put-requires c κs =
+    let p = c .before .before .before .before in
+    let e = p .put-listing .ensures .0 .count in
+    omega (arith, ap length (lines p))
+
+same-length : tie.Need-same-length
+same-length c = search needs
+
+returns-3 : tie.Need-returns-3
+returns-3 c =
+    let p = c .before .before .before .before .before .before .before in
+    let e = p .put-listing .ensures .0 .count in
+    fits (s p) (out p) (accepted p) (omega arith) (renamed (lines p) (c .before .before .put .ensures))
+
+pub print-spec : {M : Type 1} → statement M
+print-spec =
+    tie.close
+    (tie.spec
+    returns
+    slice-aggregate-put-listing
+    put-listing-requires
+    refused-requires
+    returns-2
+    array-share-prefix-scratch
+    slice-aggregate-put
+    put-requires
+    same-length
+    returns-3)

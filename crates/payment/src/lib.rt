@@ -1,0 +1,66 @@
+// The payment (document 01, 'The payment'; section 7.2).
+ghost use mathlib.Core.Path.{_≡_};
+ghost use Prim.Native.Nat.{_≤_};
+ghost use lib.IntN.{natAbs};
+ghost use Rattle.records.specs.Valid.{HeadFits};
+ghost use Rattle.figures.specs.Payment.{price, amountOf};
+ghost use Rattle.payment.specs.Payment.{paid, paymentOf, Payable};
+use records::Head;
+
+// entitlement: in watts. price: the one taken.
+pub struct Payment {
+    pub entitlement: i64,
+    pub price: i64,
+    pub amount: i64,
+    pub nyiso: i64,
+    pub pjm: i64,
+}
+
+// The price by the difference's side of the entitlement.
+fn price_of(h: Head, difference: i64) -> i64
+    ensures { λ r. ⌜ r ≡ price h difference ⌝ }
+{
+    if difference < 0 {
+        return h.nonmonitoring_price as i64;
+    }
+    if difference <= 0 {
+        return 0;
+    }
+    h.monitoring_price as i64
+}
+
+fn amount_of(h: Head, difference: i64) -> i64
+    requires { ⌜ HeadFits h × (natAbs difference ≤ 20000000000) ⌝ }
+    ensures { λ r. ⌜ r ≡ amountOf h difference ⌝ }
+{
+    let price = price_of(h, difference);
+    let seconds = h.seconds as i64;
+    let share = quotient::rounded_quotient(difference * price * seconds, 3_600_000);
+    share.quotient
+}
+
+fn paid_to(h: Head, amount: i64, rto: u8) -> i64
+    requires { ⌜ natAbs amount ≤ 7200000000000000000 ⌝ }
+    ensures { λ r. ⌜ r ≡ paid h amount rto ⌝ }
+{
+    if h.monitoring_rto == rto {
+        return amount;
+    }
+    -amount
+}
+
+pub fn pay(h: Head, flow: i64, entitlement: i64) -> Payment
+    requires { ⌜ Payable h flow entitlement ⌝ }
+    ensures { λ r. ⌜ r ≡ paymentOf h flow entitlement ⌝ }
+{
+    let watts = entitlement * 100_000;
+    let difference = flow - watts;
+    let amount = amount_of(h, difference);
+    Payment {
+        entitlement: watts,
+        price: price_of(h, difference),
+        amount,
+        nyiso: paid_to(h, amount, 1),
+        pjm: paid_to(h, amount, 2),
+    }
+}

@@ -1,0 +1,40 @@
+use borrow.Author.Needs.{needs}
+use Rattle.records.specs.Rows.{headRow}
+use Rattle.records.proofs.rows.head_row.Statement.{statement}
+use Rattle.records.proofs.rows.head_row.Tie as tie
+
+cast-outside : tie.Need-cast-outside
+cast-outside c = search needs
+
+outside-requires : tie.Need-outside-requires
+outside-requires c κs = search needs
+
+row-requires : tie.Need-row-requires
+row-requires c κs = search needs
+
+unlisted-requires : tie.Need-unlisted-requires
+unlisted-requires c κs = search needs
+
+row-requires-2 : tie.Need-row-requires-2
+row-requires-2 c κs = search needs
+
+name-rows-requires : tie.Need-name-rows-requires
+name-rows-requires c κs = search needs
+
+returns : tie.Need-returns
+unfolding headRow
+returns c =
+    let n = c .before .before .before .before .before .before in
+    rw (c .name-rows .ensures, c .before .row2 .ensures, c .before .before .unlisted .ensures, n .row .ensures, n .before .outside .ensures)
+
+pub head-row-spec : {M : Type 1} → statement M
+head-row-spec =
+    tie.close
+    (tie.spec
+    cast-outside
+    outside-requires
+    row-requires
+    unlisted-requires
+    row-requires-2
+    name-rows-requires
+    returns)

@@ -1,0 +1,150 @@
+// The body of a record, by its kind: a part of the sheet that starts behind the kind byte.
+ghost use mathlib.Core.Path.{_≡_};
+ghost use Prim.Native.Nat.{_≤_};
+ghost use lib.ListN.{length};
+ghost use Rattle.names.specs.Names.{nameAt};
+ghost use Rattle.records.specs.Bodies.{byKind, bodyLength, placeOf, headOf, zoneOf, unitOf, pointOf, parOf, factorOf};
+use super::Factor;
+use super::Head;
+use super::Par;
+use super::Place;
+use super::Point;
+use super::Unit;
+use super::Zone;
+
+pub fn by_kind(
+    kind: u8,
+    head: usize,
+    zone: usize,
+    unit: usize,
+    point: usize,
+    par: usize,
+    factor: usize,
+    none: usize,
+) -> usize
+    ensures { λ r. ⌜ r ≡ byKind kind head zone unit point par factor none ⌝ }
+{
+    match kind {
+        1 => head,
+        2 => zone,
+        3 => unit,
+        4 => point,
+        5 => par,
+        6 => factor,
+        _ => none,
+    }
+}
+
+pub fn body_length(kind: u8) -> usize
+    ensures { λ r. ⌜ r ≡ bodyLength kind ⌝ }
+{
+    by_kind(kind, 27, 24, 21, 26, 25, 6, 0)
+}
+
+fn name_of(b: &[u8]) -> [u8; 16]
+    requires { ⌜ 16 ≤ length (now b) ⌝ }
+    ensures { λ r. ⌜ r ≡ nameAt (now (b .entry)) 0 ⌝ }
+{
+    [
+        b[0],
+        b[1],
+        b[2],
+        b[3],
+        b[4],
+        b[5],
+        b[6],
+        b[7],
+        b[8],
+        b[9],
+        b[10],
+        b[11],
+        b[12],
+        b[13],
+        b[14],
+        b[15],
+    ]
+}
+
+fn place_of(n: u8) -> Place
+    ensures { λ r. ⌜ r ≡ placeOf n ⌝ }
+{
+    if n == 0 { Place::Proxy } else { Place::Line(n) }
+}
+
+pub fn head_of(b: &[u8]) -> Head
+    requires { ⌜ 27 ≤ length (now b) ⌝ }
+    ensures { λ r. ⌜ r ≡ headOf (now (b .entry)) ⌝ }
+{
+    let name = name_of(b);
+    Head {
+        name,
+        monitoring_rto: b[16],
+        seconds: fields::ube16_at(b, 17),
+        monitoring_price: fields::be32_at(b, 19),
+        nonmonitoring_price: fields::be32_at(b, 23),
+    }
+}
+
+pub fn zone_of(b: &[u8]) -> Zone
+    requires { ⌜ 24 ≤ length (now b) ⌝ }
+    ensures { λ r. ⌜ r ≡ zoneOf (now (b .entry)) ⌝ }
+{
+    let name = name_of(b);
+    Zone {
+        name,
+        load: fields::be32_at(b, 16),
+        losses: fields::be32_at(b, 20),
+    }
+}
+
+pub fn unit_of(b: &[u8]) -> Unit
+    requires { ⌜ 21 ≤ length (now b) ⌝ }
+    ensures { λ r. ⌜ r ≡ unitOf (now (b .entry)) ⌝ }
+{
+    let name = name_of(b);
+    Unit {
+        name,
+        zone: b[16],
+        output: fields::be32_at(b, 17),
+    }
+}
+
+pub fn point_of(b: &[u8]) -> Point
+    requires { ⌜ 26 ≤ length (now b) ⌝ }
+    ensures { λ r. ⌜ r ≡ pointOf (now (b .entry)) ⌝ }
+{
+    let name = name_of(b);
+    let place = place_of(b[17]);
+    Point {
+        name,
+        sort: b[16],
+        place,
+        import: fields::be32_at(b, 18),
+        export: fields::be32_at(b, 22),
+    }
+}
+
+pub fn par_of(b: &[u8]) -> Par
+    requires { ⌜ 25 ≤ length (now b) ⌝ }
+    ensures { λ r. ⌜ r ≡ parOf (now (b .entry)) ⌝ }
+{
+    let name = name_of(b);
+    Par {
+        name,
+        class: b[16],
+        actual: fields::sbe32_at(b, 17),
+        target: fields::sbe32_at(b, 21),
+    }
+}
+
+pub fn factor_of(b: &[u8]) -> Factor
+    requires { ⌜ 6 ≤ length (now b) ⌝ }
+    ensures { λ r. ⌜ r ≡ factorOf (now (b .entry)) ⌝ }
+{
+    Factor {
+        target: b[0],
+        subject: b[1],
+        index: fields::ube16_at(b, 2),
+        factor: fields::sbe16_at(b, 4),
+    }
+}

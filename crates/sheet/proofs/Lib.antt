@@ -1,0 +1,11 @@
+pub mod Front
+pub mod Walk
+pub mod Reach
+pub mod Told
+pub mod Each
+pub mod Factors
+pub mod Accepted
+pub mod Long
+pub mod Refusal
+pub mod Named
+pub mod Numbered

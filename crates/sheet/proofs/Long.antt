@@ -1,0 +1,134 @@
+-- A sheet's first 27,776 bytes decide: no accepted sheet is longer than 27,748 bytes, and in a longer one a record is refused that begins at or before that place.
+use Prim.Native.Nat.{ℕ, zero, suc, _+_, _*_, _-_, _≤_, _<_}
+use mathlib.Core.Path.{_≡_, refl, sym, ap, _∙_}
+use mathlib.Core.Bool.{Bool, true, false}
+use mathlib.Core.List.{List, [], _∷_}
+use native.Mathlib.Omega.{arith}
+use lib.Dec.{ltb, eqb·suc-zero}
+use lib.ListN.{length, take, drop, length-take, length-drop}
+use lib.Seq.{take-all, take-nil, take-take, getD-take, length-take-le}
+use borrow.Author.Tests.{lt-ltb, le-ltb}
+use Rattle.fields.specs.Fields.{byteAt}
+use Rattle.due.proofs.Laws.{below-or, length-due, every-par}
+use Rattle.records.specs.Bodies.{bodyLength, bodyIn}
+use Rattle.records.specs.Content.{Content, noContent, withRecord}
+use Rattle.layout.specs.declared.Layout.{Layout}
+use Rattle.layout.specs.Layout.{extent, Allowed, layoutOf}
+use Rattle.layout.proofs.ByKind.{length-most}
+use Rattle.layout.proofs.Places.{extent-is}
+use Rattle.sheet.specs.declared.Outcome.the-variants.{Accepted}
+use Rattle.sheet.specs.Sheet.{Reading, holds, fails, recordRow, frontRow, cutShort, firstRow, recordsFrom, reading, readSheet, contentOf, dueOf}
+use Rattle.sheet.specs.Passed.{Passed, none, more, rowAt, Accepts, Refuses}
+use Rattle.sheet.proofs.Reach.{fronted, reach-within, reach-laid, reach-allowed}
+use Rattle.sheet.proofs.Each.{each-factor}
+use Rattle.sheet.proofs.Walk.{from-next, from-refused}
+use Rattle.sheet.proofs.Told.{reading-told, kept}
+
+-- no more factors than are due
+few-factors : {s : List ℕ} {at last : ℕ} {c : Content} → Passed s at last c → layoutOf c .factors ≤ length (dueOf (layoutOf c))
+unfolding layoutOf
+few-factors {c = c} p =
+    below-or 0 (length (c .factors))
+    (λ a.
+    let f = each-factor p (length (c .factors) - 1) (omega arith) .some in
+    omega (arith, length-take-le (length (c .factors) - 1) (c .factors) (omega arith)))
+    (λ a. omega arith)
+
+at-most : (l : Layout) → Allowed l → l .factors ≤ length (dueOf l) → extent l ≤ 27748
+at-most l a f =
+    omega (arith, extent-is l, length-due (l .zones) (l .units) (l .points) (l .pars), every-par (l .zones) (l .units) (l .points) (l .pars) (a .units) (a .zones) (a .points) (a .pars))
+
+-- no record begins, and no sheet ends, behind the longest sheet
+pub reach-short : {s : List ℕ} {at last : ℕ} {c : Content} → Passed s at last c → at ≤ 27748
+reach-short {s} {c = c} p = omega (arith, at-most (layoutOf c) (reach-allowed s p) (few-factors p), reach-laid s p .here)
+
+-- records that pass lead the reading on
+passed-on : {s : List ℕ} {at last : ℕ} {c : Content} → Passed s at last c → recordsFrom at 0 last c (drop at s) ≡ recordsFrom 0 0 0 noContent s
+passed-on none = refl
+passed-on {s} (more {at} {last} {c} p h e) = from-next s at last c h e ∙ passed-on p
+
+drop-take : (a m : ℕ) (l : List ℕ) → drop a (take (a + m) l) ≡ take m (drop a l)
+drop-take zero m l = let e : 0 + m ≡ m = omega arith in rw e
+drop-take (suc a) m [] = rw (take-nil {A = ℕ} (suc a + m), take-nil {A = ℕ} m)
+drop-take (suc a) m (x ∷ l) = let e : suc a + m ≡ suc (a + m) = omega arith in rw e (drop-take a m l)
+
+-- bytes behind a body do not matter to its record
+row-take : (c : Content) (last kind m : ℕ) (r : List ℕ) → bodyLength kind ≤ m → m ≤ length r → recordRow c last kind (take m r) ≡ recordRow c last kind r
+unfolding recordRow frontRow
+row-take c last k m r h g =
+    rw (
+      take-take (bodyLength k) m r h,
+      le-ltb (length (take m r)) (bodyLength k) (omega (arith, length-take-le m r g)),
+      le-ltb (length r) (bodyLength k) (omega arith),
+    )
+
+first-take : (n : ℕ) (s : List ℕ) → 0 < n → firstRow (take n s) ≡ firstRow s
+unfolding firstRow
+first-take zero s h = absurd (omega arith)
+first-take (suc n) [] h = refl
+first-take (suc n) (k ∷ s) h = refl
+
+module _ (s : List ℕ) (n : ℕ) (enough : 27776 ≤ n) (longer : n ≤ length s) where
+  abbrev front : List ℕ
+  front = take n s
+
+  front-length : length front ≡ n
+  front-length = length-take-le n s longer
+
+  same-byte : (at : ℕ) → at ≤ 27748 → byteAt front at ≡ byteAt s at
+  same-byte at h = getD-take n s at 0 (omega arith)
+
+  rest : (at : ℕ) → at ≤ 27748 → drop (at + 1) front ≡ take (n - (at + 1)) (drop (at + 1) s)
+  rest at h = let e : n ≡ at + 1 + (n - (at + 1)) = omega arith in ap (λ (m : ℕ). drop (at + 1) (take m s)) e ∙ drop-take (at + 1) (n - (at + 1)) s
+
+  same-row : (c : Content) (last at : ℕ) → at ≤ 27748 → recordRow c last (byteAt front at) (drop (at + 1) front) ≡ recordRow c last (byteAt s at) (drop (at + 1) s)
+  same-row c last at h =
+      rw (same-byte at h, rest at h)
+      (row-take c last (byteAt s at) (n - (at + 1)) (drop (at + 1) s) (omega (arith, length-most (byteAt s at))) (omega (arith, length-drop (at + 1) s)))
+
+  same-body : (at : ℕ) → at ≤ 27748 → bodyIn (byteAt s at) (drop (at + 1) front) ≡ bodyIn (byteAt s at) (drop (at + 1) s)
+  same-body at h = rw (rest at h) (take-take (bodyLength (byteAt s at)) (n - (at + 1)) (drop (at + 1) s) (omega (arith, length-most (byteAt s at))))
+
+  moved : {at last : ℕ} {c : Content} → Passed s at last c → Passed front at last c
+  moved none = none
+  moved (more {at} {last} {c} p h e) =
+      let b = reach-short p in
+      rw (same-byte at b, same-body at b) at (more (moved p) (omega (arith, front-length)) (same-row c last at b ∙ e))
+
+  refused : (number p : ℕ) → Refuses s number p → recordsFrom 0 0 0 noContent front ≡ fails number p
+  unfolding rowAt
+  refused number p r =
+      let b = reach-short (r .passed) in
+      let e : recordRow (r .content) (r .last) (byteAt s p) (drop (p + 1) s) ≡ number = rw (lt-ltb p (length s) (omega arith)) at (r .row) in
+      let m = moved (r .passed) in
+      let q = same-row (r .content) (r .last) p b ∙ e in
+      sym (passed-on m) ∙ from-refused front p (r .last) (r .content) (omega (arith, front-length)) (λ z. r .some (sym q ∙ z)) ∙ rw q
+
+  by-reading : (r : Reading) → reading s ≡ r → firstRow s ≡ 0 → reading front ≡ r
+  unfolding reading
+  by-reading (holds c) e f =
+      let a : Accepts s c = rw e at (reading-told s f) in
+      absurd (omega (arith, reach-short (a .passed)))
+  by-reading (fails number p) e f = rw (first-take n s (omega arith), f) (refused number p (rw e at (reading-told s f)))
+
+  same-reading : (number : ℕ) → firstRow s ≡ number → reading front ≡ reading s
+  unfolding reading
+  same-reading zero f = by-reading (reading s) refl f
+  same-reading (suc number) f = rw (first-take n s (omega arith), f, eqb·suc-zero number)
+
+long-reading : (s : List ℕ) (n : ℕ) → 27776 ≤ n → reading (take n s) ≡ reading s
+long-reading s n h =
+    below-or n (length s)
+    (λ a. same-reading s n h (omega arith) (firstRow s) refl)
+    (λ a. rw (take-all n s a))
+
+pub long : (s : List ℕ) (n : ℕ) → 27776 ≤ n → readSheet (take n s) ≡ readSheet s
+unfolding readSheet
+long s n h = rw (long-reading s n h)
+
+pub long-content : (s : List ℕ) (n : ℕ) → 27776 ≤ n → contentOf (take n s) ≡ contentOf s
+unfolding contentOf
+long-content s n h = rw (long-reading s n h)
+
+pub accepted-short : (s : List ℕ) (l : Layout) → readSheet s ≡ Accepted l → length s ≤ 27748
+accepted-short s l e = reach-short (kept s l e .accepts .passed)

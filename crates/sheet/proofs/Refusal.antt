@@ -1,0 +1,82 @@
+-- Where a refusal points: the records before that place pass their rows, and the record there, or the sheet's end, meets the refusal's row.
+use Prim.Native.Nat.{ℕ, suc, _+_, _-_, _≤_, _<_}
+use mathlib.Core.Path.{_≡_, refl, sym, ap, _∙_}
+use mathlib.Core.Bool.{Bool, true, false}
+use mathlib.Core.List.{List}
+use mathlib.Core.Logic.{⊎-elim}
+use native.Mathlib.Omega.{arith}
+use lib.ListN.{length, drop, length-drop}
+use borrow.Author.Tests.{lt-ltb, le-ltb}
+use Rattle.fields.specs.Fields.{byteAt}
+use Rattle.due.proofs.Laws.{below-or}
+use Rattle.records.specs.Bodies.{bodyLength}
+use Rattle.records.specs.Content.{Content}
+use Rattle.records.specs.Rows.{row}
+use Rattle.layout.specs.declared.Layout.{Layout}
+use Rattle.layout.specs.Layout.{layoutOf}
+use Rattle.sheet.specs.declared.Outcome.the-variants.{Accepted, Refused}
+use Rattle.sheet.specs.Sheet.{Reading, holds, fails, unknownKind, frontRow, noZoneOrUnit, stillDue, recordRow, endRow, firstRow, reading, outcome, readSheet}
+use Rattle.sheet.specs.Passed.{Passed, rowAt, Refuses}
+use Rattle.sheet.proofs.Reach.{reach-within}
+use Rattle.sheet.proofs.Told.{first-number, refused-first, reading-told}
+
+by-reading : (s : List ℕ) (number at : ℕ) (r : Reading) → reading s ≡ r → outcome r ≡ Refused number at → firstRow s ≡ 0 → Refuses s number at
+by-reading s number at (holds c) e o f = let z : _≡_ {A = ℕ} 0 1 = cc in absurd (omega arith)
+by-reading s number at (fails n p) e o f =
+    let n-is : n ≡ number = cc in
+    let p-is : p ≡ at = cc in
+    rw (n-is, p-is) at (rw e at (reading-told s f))
+
+pub refuses : (s : List ℕ) (number at : ℕ) → readSheet s ≡ Refused number at → 2 ≤ number → Refuses s number at
+unfolding readSheet
+refuses s number at e g =
+    ⊎-elim
+    (λ (f : firstRow s ≡ 0). by-reading s number at (reading s) refl e f)
+    (λ (f : firstRow s ≡ 1).
+    let q = refused-first s f in
+    let z : 1 ≡ number = cc in
+    absurd (omega arith))
+    (first-number s)
+
+-- the part of the sheet that a refusal points at
+pub record Points (s : List ℕ) (number at : ℕ) : Type 0 where
+  pub within : at ≤ length s
+  pub some : number ≤ 11 → at < length s
+  pub whole : 4 ≤ number → number ≤ 11 → at + 1 + bodyLength (byteAt s at) ≤ length s
+
+-- a body cut short is row 3 at the latest
+short-row : (c : Content) (last kind : ℕ) (r : List ℕ) → length r < bodyLength kind → recordRow c last kind r ≤ 3
+unfolding recordRow frontRow
+short-row c last k r h = rw (lt-ltb _ _ h) (pick (unknownKind k))
+  where
+    pick : (b : Bool) → row 2 b 3 ≤ 3
+    pick true = omega arith
+    pick false = omega arith
+
+-- at the sheet's end rows 12 and 13 alone
+end-late : (l : Layout) (number : ℕ) → endRow l ≡ number → (number ≡ 0 → ⊥) → 12 ≤ number
+unfolding endRow
+end-late l number = pick (noZoneOrUnit l) (stillDue l)
+  where
+    pick : (a b : Bool) → row 12 a (row 13 b 0) ≡ number → (number ≡ 0 → ⊥) → 12 ≤ number
+    pick true b e n = omega arith
+    pick false true e n = omega arith
+    pick false false e n = absurd (n (sym e))
+
+pub points : (s : List ℕ) (number at : ℕ) → Refuses s number at → Points s number at
+unfolding rowAt
+points s number at r =
+    below-or at (length s)
+    (λ a.
+    let e : recordRow (r .content) (r .last) (byteAt s at) (drop (at + 1) s) ≡ number = rw (lt-ltb at (length s) a) at (r .row) in
+    record {
+      within = omega arith;
+      some = λ h. a;
+      whole = λ g h.
+          below-or (length (drop (at + 1) s)) (bodyLength (byteAt s at))
+          (λ b. absurd (omega (arith, short-row (r .content) (r .last) (byteAt s at) (drop (at + 1) s) b)))
+          (λ b. omega (arith, length-drop (at + 1) s));
+    })
+    (λ a.
+    let l = end-late (layoutOf (r .content)) number (rw (le-ltb at (length s) a) at (r .row)) (r .some) in
+    record { within = reach-within s (r .passed); some = λ h. absurd (omega arith); whole = λ g h. absurd (omega arith) })

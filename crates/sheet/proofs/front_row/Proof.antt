@@ -1,0 +1,38 @@
+use borrow.Author.Needs.{needs}
+use Rattle.sheet.specs.Sheet.{frontRow}
+use Rattle.sheet.proofs.front_row.Statement.{statement}
+use Rattle.sheet.proofs.front_row.Tie as tie
+
+one-too-many-requires : tie.Need-one-too-many-requires
+one-too-many-requires c κs = search needs
+
+row-requires : tie.Need-row-requires
+row-requires c κs = search needs
+
+row-requires-2 : tie.Need-row-requires-2
+row-requires-2 c κs = search needs
+
+body-length-requires : tie.Need-body-length-requires
+body-length-requires c κs = search needs
+
+row-requires-3 : tie.Need-row-requires-3
+row-requires-3 c κs = search needs
+
+row-requires-4 : tie.Need-row-requires-4
+row-requires-4 c κs = search needs
+
+returns : tie.Need-returns
+unfolding frontRow
+returns c = cc
+
+pub front-row-spec : {M : Type 1} → statement M
+front-row-spec =
+    tie.close
+    (tie.spec
+    one-too-many-requires
+    row-requires
+    row-requires-2
+    body-length-requires
+    row-requires-3
+    row-requires-4
+    returns)

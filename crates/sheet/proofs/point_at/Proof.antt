@@ -1,0 +1,25 @@
+use native.Mathlib.Omega.{arith}
+use Rattle.records.specs.Bodies.{byKind}
+use Rattle.sheet.proofs.Accepted.{extent-is, whole, point-is}
+use Rattle.sheet.proofs.point_at.Statement.{statement}
+use Rattle.sheet.proofs.point_at.Tie as tie
+
+body-at-requires : tie.Need-body-at-requires
+unfolding byKind
+body-at-requires c κs =
+    let p = c .before .pre in
+    (omega (arith, extent-is _ _ (p .0)), omega arith, omega arith, p .1)
+
+point-of-requires : tie.Need-point-of-requires
+unfolding byKind
+point-of-requires c κs =
+    let p = c .before .before in
+    rw (c .body-at .ensures) (omega (arith, whole _ _ (p .pre .0) 4 (p .args .i) (omega arith) (omega arith) (p .pre .1)))
+
+returns : tie.Need-returns
+returns c =
+    let p = c .before .before .before in
+    rw (point-is _ _ (p .pre .0) (p .args .i) (p .pre .1), ← c .before .body-at .ensures) (c .point-of .ensures)
+
+pub point-at-spec : {M : Type 1} → statement M
+point-at-spec = tie.close (tie.spec body-at-requires point-of-requires returns)

@@ -1,0 +1,25 @@
+use native.Mathlib.Omega.{arith}
+use Rattle.records.specs.Bodies.{byKind}
+use Rattle.sheet.proofs.Accepted.{extent-is, whole, unit-is}
+use Rattle.sheet.proofs.unit_at.Statement.{statement}
+use Rattle.sheet.proofs.unit_at.Tie as tie
+
+body-at-requires : tie.Need-body-at-requires
+unfolding byKind
+body-at-requires c κs =
+    let p = c .before .pre in
+    (omega (arith, extent-is _ _ (p .0)), omega arith, omega arith, p .1)
+
+unit-of-requires : tie.Need-unit-of-requires
+unfolding byKind
+unit-of-requires c κs =
+    let p = c .before .before in
+    rw (c .body-at .ensures) (omega (arith, whole _ _ (p .pre .0) 3 (p .args .i) (omega arith) (omega arith) (p .pre .1)))
+
+returns : tie.Need-returns
+returns c =
+    let p = c .before .before .before in
+    rw (unit-is _ _ (p .pre .0) (p .args .i) (p .pre .1), ← c .before .body-at .ensures) (c .unit-of .ensures)
+
+pub unit-at-spec : {M : Type 1} → statement M
+unit-at-spec = tie.close (tie.spec body-at-requires unit-of-requires returns)

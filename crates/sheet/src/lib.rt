@@ -1,0 +1,176 @@
+// The interval sheet: read once, and refused by rows 1 to 13 or accepted with its layout. An accepted sheet's records are then read where they stand.
+ghost use mathlib.Core.Path.{_≡_};
+ghost use Prim.Native.Nat.{_+_, _≤_, _<_};
+ghost use lib.ListN.{length, drop};
+ghost use Rattle.fields.specs.Fields.{byteAt};
+ghost use Rattle.due.specs.Due.{Asked};
+ghost use Rattle.records.specs.Bodies.{bodyLength};
+ghost use Rattle.records.specs.Content.{head, zone, unit, point, par, factorFor};
+ghost use Rattle.layout.specs.Layout.{Allowed, contentAt};
+ghost use Rattle.sheet.specs.declared.Outcome.the-variants.{Accepted};
+ghost use Rattle.sheet.specs.Sheet.{oneTooMany, frontRow, bodyRow, recordRow, endRow, readSheet, contentOf};
+ghost use Rattle.sheet.specs.Passed.{Passed};
+use layout::Layout;
+use records::bodies;
+use records::rows;
+use records::rows::row;
+
+// The sheet's layout, or the refusal's number and the place where the offending record begins.
+pub enum Outcome {
+    Accepted(Layout),
+    Refused(u8, usize),
+}
+
+fn one_too_many(l: Layout, kind: u8) -> bool
+    ensures { λ r. ⌜ r ≡ oneTooMany l kind ⌝ }
+{
+    match kind {
+        2 => 32 <= l.zones,
+        3 => 256 <= l.units,
+        4 => 32 <= l.points,
+        5 => 8 <= l.pars,
+        _ => false,
+    }
+}
+
+// Rows 2 to 5.
+fn front_row(l: Layout, last: u8, kind: u8, left: usize) -> u8
+    ensures { λ r. ⌜ r ≡ frontRow l last kind left 0 ⌝ }
+{
+    let out_of_order = (kind < last) | ((kind == 1) & (1 <= l.heads));
+    let in_order = row(4, out_of_order, row(5, one_too_many(l, kind), 0));
+    let whole = row(3, left < bodies::body_length(kind), in_order);
+    row(2, (kind < 1) | (6 < kind), whole)
+}
+
+// Rows 6 to 11 of the body b.
+fn body_row(l: Layout, kind: u8, repeated: bool, b: &[u8]) -> u8
+    requires { ⌜ Allowed l × (1 ≤ kind) × (kind ≤ 6) × (bodyLength kind ≤ length (now b)) ⌝ }
+    ensures { λ r. ⌜ r ≡ bodyRow l kind repeated (now (b .entry)) ⌝ }
+{
+    match kind {
+        1 => rows::head_row(bodies::head_of(b)),
+        2 => rows::zone_row(repeated, bodies::zone_of(b)),
+        3 => rows::unit_row(l.zones, repeated, bodies::unit_of(b)),
+        4 => rows::point_row(l.zones, repeated, bodies::point_of(b)),
+        5 => rows::par_row(repeated, bodies::par_of(b)),
+        _ => {
+            let f = bodies::factor_of(b);
+            rows::factor_row(l.zones, l.units, l.points, l.pars, l.factors, f)
+        }
+    }
+}
+
+// The first row that fits the record at a place, or 0.
+fn record_row(s: &[u8], l: Layout, last: u8, at: usize) -> u8
+    requires { ⌜ Passed (now s) at last (contentAt (now s) l) × (at < length (now s)) ⌝ }
+    ensures { λ r. ⌜ r ≡ recordRow (contentAt (now (s .entry)) l) last (byteAt (now (s .entry)) at) (drop (at + 1) (now (s .entry))) ⌝ }
+{
+    let kind = s[at];
+    let from = at + 1;
+    let front = front_row(l, last, kind, s.len() - from);
+    if front != 0 {
+        return front;
+    }
+    let repeated = layout::repeated(s, l, kind, at);
+    body_row(
+        l,
+        kind,
+        repeated,
+        &s[from..from + bodies::body_length(kind)],
+    )
+}
+
+// Rows 12 and 13.
+fn end_row(l: Layout) -> u8
+    requires { ⌜ Allowed l ⌝ }
+    ensures { λ r. ⌜ r ≡ endRow l ⌝ }
+{
+    let due = due::due_count(l.zones, l.units, l.points, l.pars);
+    row(
+        12,
+        (l.zones == 0) | (l.units == 0),
+        row(13, l.factors < due, 0),
+    )
+}
+
+pub fn read(s: &[u8]) -> Outcome
+    ensures { λ r. ⌜ r ≡ readSheet (now (s .entry)) ⌝ }
+{
+    if s.len() == 0 {
+        return Outcome::Refused(1, 0);
+    }
+    if s[0] != 1 {
+        return Outcome::Refused(1, 0);
+    }
+    let mut l = Layout {
+        heads: 0,
+        zones: 0,
+        units: 0,
+        points: 0,
+        pars: 0,
+        factors: 0,
+    };
+    let mut last = 0;
+    let mut at = 0;
+    while at < s.len() {
+        let number = record_row(s, l, last, at);
+        if number != 0 {
+            return Outcome::Refused(number, at);
+        }
+        last = s[at];
+        l = layout::counted(l, last);
+        at = at + 1 + bodies::body_length(last);
+    }
+    let number = end_row(l);
+    if number != 0 {
+        return Outcome::Refused(number, at);
+    }
+    Outcome::Accepted(l)
+}
+
+// The records of an accepted sheet, those of a kind counted from 0.
+pub fn head_at(s: &[u8], l: Layout) -> records::Head
+    requires { ⌜ readSheet (now s) ≡ Accepted l ⌝ }
+    ensures { λ r. ⌜ r ≡ head (contentOf (now (s .entry))) ⌝ }
+{
+    bodies::head_of(layout::body_at(s, l, 1, 0))
+}
+
+pub fn zone_at(s: &[u8], l: Layout, i: usize) -> records::Zone
+    requires { ⌜ (readSheet (now s) ≡ Accepted l) × (i < l .zones) ⌝ }
+    ensures { λ r. ⌜ r ≡ zone (contentOf (now (s .entry))) i ⌝ }
+{
+    bodies::zone_of(layout::body_at(s, l, 2, i))
+}
+
+pub fn unit_at(s: &[u8], l: Layout, i: usize) -> records::Unit
+    requires { ⌜ (readSheet (now s) ≡ Accepted l) × (i < l .units) ⌝ }
+    ensures { λ r. ⌜ r ≡ unit (contentOf (now (s .entry))) i ⌝ }
+{
+    bodies::unit_of(layout::body_at(s, l, 3, i))
+}
+
+pub fn point_at(s: &[u8], l: Layout, i: usize) -> records::Point
+    requires { ⌜ (readSheet (now s) ≡ Accepted l) × (i < l .points) ⌝ }
+    ensures { λ r. ⌜ r ≡ point (contentOf (now (s .entry))) i ⌝ }
+{
+    bodies::point_of(layout::body_at(s, l, 4, i))
+}
+
+pub fn par_at(s: &[u8], l: Layout, i: usize) -> records::Par
+    requires { ⌜ (readSheet (now s) ≡ Accepted l) × (i < l .pars) ⌝ }
+    ensures { λ r. ⌜ r ≡ par (contentOf (now (s .entry))) i ⌝ }
+{
+    bodies::par_of(layout::body_at(s, l, 5, i))
+}
+
+// The factor of the i-th of a subject on a target.
+pub fn factor_at(s: &[u8], l: Layout, target: usize, subject: u8, i: usize) -> i64
+    requires { ⌜ (readSheet (now s) ≡ Accepted l) × Asked (l .zones) (l .units) (l .points) (l .pars) target subject i ⌝ }
+    ensures { λ r. ⌜ r ≡ factorFor (contentOf (now (s .entry)) .factors) target subject (i + 1) ⌝ }
+{
+    let n = due::due_place(l.zones, l.units, l.points, l.pars, target, subject, i);
+    let f = bodies::factor_of(layout::body_at(s, l, 6, n));
+    f.factor as i64
+}

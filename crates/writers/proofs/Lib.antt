@@ -1,0 +1,4 @@
+pub mod Writing
+pub mod Decimal
+pub mod Signs
+pub mod Names
