@@ -1,10 +1,10 @@
--- Cases by kind.
+-- Cases by kind. Assumes nothing.
 use Prim.Native.Nat.{ℕ, _<_, _≤_}
 use mathlib.Core.Path.{_≡_, refl}
 use mathlib.Core.Bool.{Bool, true, false, cond}
 use lib.Dec.{eqb}
 use native.Mathlib.Omega.{arith}
-use Rattle.due.proofs.Laws.{below-or}
+use Rattle.due.proofs.Tab.{below-or}
 use Rattle.records.specs.Bodies.{byKind, bodyLength}
 
 -- a fact of each kind

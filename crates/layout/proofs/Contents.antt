@@ -1,4 +1,4 @@
--- The content at the places: its lists' lengths and records, and one record more.
+-- The content at the places: its lists' lengths and records, and one record more. Assumes nothing.
 use Prim.Native.Nat.{ℕ, zero, suc, _+_, _*_, _≤_, _<_}
 use mathlib.Core.Path.{_≡_, refl, sym, ap, _∙_}
 use mathlib.Core.Bool.{Bool, true, false}
@@ -6,16 +6,15 @@ use mathlib.Core.List.{List, [], _∷_, _++_, append-nil}
 use native.Mathlib.Numerals.{add-one}
 use native.Mathlib.Omega.{arith}
 use lib.Dec.{eqb}
-use lib.ListN.{length, drop, length-drop}
-use lib.Seq.{length-take-le}
+use lib.ListN.{drop}
 use borrow.Author.Tests.{eqb-true, eqb-false}
 use Rattle.due.specs.Due.{tab}
-use Rattle.due.proofs.Laws.{below-or, length-tab}
-use Rattle.records.specs.Bodies.{byKind, bodyLength, bodyIn, headOf, zoneOf, unitOf, pointOf, parOf, factorOf}
+use Rattle.due.proofs.Tab.{below-or, length-tab}
+use Rattle.records.specs.Bodies.{byKind, bodyIn, headOf, zoneOf, unitOf, pointOf, parOf, factorOf}
 use Rattle.records.specs.Content.{Content, onlyIf, noContent, withRecord}
 use Rattle.layout.specs.declared.Layout.{Layout}
-use Rattle.layout.specs.Layout.{count, counted, noRecords, size, firstOf, startOf, extent, bodyAt, contentAt, layoutOf}
-use Rattle.layout.proofs.Places.{count-same, count-other, first-agree, within}
+use Rattle.layout.specs.Layout.{count, counted, noRecords, size, firstOf, startOf, bodyAt, contentAt, layoutOf}
+use Rattle.layout.proofs.Places.{count-same, count-other, first-agree}
 use Rattle.layout.proofs.Laid.{Laid, laid-at, below-same}
 
 pub layout-at : (s : List ℕ) (l : Layout) → layoutOf (contentAt s l) ≡ l
@@ -29,12 +28,6 @@ layout-at s l =
       length-tab (λ i. parOf (bodyAt s l 5 i)) (l .pars),
       length-tab (λ i. factorOf (bodyAt s l 6 i)) (l .factors),
     )
-
--- a body within the sheet is whole
-pub body-whole : (s : List ℕ) (l : Layout) (kind i : ℕ) → extent l ≤ length s → 1 ≤ kind → kind ≤ 6 → i < count l kind → length (bodyAt s l kind i) ≡ bodyLength kind
-body-whole s l k i r g h a =
-    let w = within l k i g h a in
-    length-take-le (bodyLength k) (drop (startOf l k i + 1) s) (omega (arith, length-drop (startOf l k i + 1) s))
 
 pub none-at : (s : List ℕ) → contentAt s noRecords ≡ noContent
 unfolding contentAt tab

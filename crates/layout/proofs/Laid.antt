@@ -1,4 +1,4 @@
--- Records that follow one another with no kind below the one before.
+-- Records that follow one another with no kind below the one before. Assumes nothing.
 use Prim.Native.Nat.{ℕ, zero, suc, _+_, _*_, _≤_, _<_}
 use mathlib.Core.Path.{_≡_, refl, sym, ap, _∙_}
 use native.Mathlib.Omega.{arith}

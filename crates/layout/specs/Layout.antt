@@ -5,7 +5,7 @@ use mathlib.Core.Bool.{Bool, true, false, toNat}
 use mathlib.Core.List.{List}
 use lib.Dec.{eqb}
 use lib.ListN.{length, drop}
-use Rattle.due.specs.Due.{tab}
+use Rattle.due.specs.Due.{tab, Few}
 use Rattle.records.specs.Bodies.{byKind, bodyLength, bodyIn, headOf, zoneOf, unitOf, pointOf, parOf, factorOf}
 use Rattle.records.specs.Content.{Content}
 use Rattle.layout.specs.declared.Layout.{Layout}
@@ -21,13 +21,10 @@ noRecords = record { heads = 0; zones = 0; units = 0; points = 0; pars = 0; fact
 abbrev pub count : Layout → ℕ → ℕ
 count l kind = byKind kind (l .heads) (l .zones) (l .units) (l .points) (l .pars) (l .factors) 0
 
--- no more than allowed: one head, 32 zones, 256 units, 32 points, 8 PARs
+-- no more than a sheet may have
 pub record Allowed (l : Layout) : Type 0 where
   pub heads : l .heads ≤ 1
-  pub zones : l .zones ≤ 32
-  pub units : l .units ≤ 256
-  pub points : l .points ≤ 32
-  pub pars : l .pars ≤ 8
+  pub few : Few (l .zones) (l .units) (l .points) (l .pars)
 
 -- one more of a kind
 unfoldable pub counted : Layout → ℕ → Layout

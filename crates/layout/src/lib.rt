@@ -2,7 +2,7 @@
 ghost use mathlib.Core.Path.{_≡_};
 ghost use Prim.Native.Nat.{_+_, _*_, _≤_, _<_, _^_};
 ghost use lib.ListN.{length, drop};
-ghost use Rattle.records.specs.Bodies.{bodyIn};
+ghost use Rattle.records.specs.Bodies.{bodyLength, bodyIn};
 ghost use Rattle.records.specs.Rows.{repeats};
 ghost use Rattle.layout.specs.Layout.{one, count, counted, size, firstOf, startOf, extent, bodyAt, contentAt};
 
@@ -74,7 +74,7 @@ fn first_of(l: Layout, kind: u8) -> usize
 // The body of the i-th record of a kind, from 0: the part of the sheet that starts behind the record's kind byte.
 pub fn body_at(s: &[u8], l: Layout, kind: u8, i: usize) -> &[u8]
     requires { ⌜ (extent l ≤ length (now s)) × (1 ≤ kind) × (kind ≤ 6) × (i < count l kind) ⌝ }
-    ensures { λ r. ⌜ now r ≡ bodyAt (now (s .entry)) l kind i ⌝ }
+    ensures { λ r. ⌜ (now r ≡ bodyAt (now (s .entry)) l kind i) × (length (now r) ≡ bodyLength kind) ⌝ }
 {
     let from = first_of(l, kind) + size_of(kind) * i + 1;
     &s[from..from + records::bodies::body_length(kind)]

@@ -1,4 +1,4 @@
--- A signed number is outside ± a bound where it lies below the one end or above the other.
+-- A signed number is outside ± a bound where it lies below the one end or above the other. Assumes nothing.
 use Prim.Native.Nat.{ℕ, zero, suc, _<_, _^_}
 use mathlib.Core.Path.{_≡_, refl, sym, _∙_}
 use mathlib.Core.Bool.{_||_, or-false}

@@ -1,4 +1,4 @@
--- What follows for a record's fields where none of its rows fits.
+-- What follows for a record's fields where none of its rows fits. Assumes nothing.
 use Prim.Native.Nat.{ℕ, suc, _≤_, _<_}
 use mathlib.Core.Path.{_≡_, refl}
 use mathlib.Core.Bool.{Bool, true, false, not, _||_}

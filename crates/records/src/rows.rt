@@ -1,8 +1,7 @@
 // Rows 6 to 11 of one record, by its fields.
 ghost use mathlib.Core.Path.{_≡_};
 ghost use mathlib.Core.Bool.{not};
-ghost use Prim.Native.Nat.{_≤_};
-ghost use Rattle.due.specs.Due.{dueList};
+ghost use Rattle.due.specs.Due.{dueList, Few};
 ghost use Rattle.records.specs.Content.{bears};
 ghost use Rattle.records.specs.Rows.{row, outside, beyond, badName, unlisted, noZoneOf, placeUnknown, headRow, zoneRow, unitRow, pointRow, parRow, factorRow};
 use super::Factor;
@@ -76,42 +75,41 @@ fn name_rows(name: &[u8], repeated: bool, below: u8) -> u8
 pub fn head_row(h: Head) -> u8
     ensures { λ r. ⌜ r ≡ headRow h ⌝ }
 {
+    let codes = unlisted(h.monitoring_rto);
     let prices = (400_000 < h.monitoring_price) | (400_000 < h.nonmonitoring_price);
-    let numbers = row(9, outside(1, h.seconds as usize, 900) | prices, 0);
-    name_rows(&h.name, false, row(8, unlisted(h.monitoring_rto), numbers))
+    let numbers = outside(1, h.seconds as usize, 900) | prices;
+    name_rows(&h.name, false, row(8, codes, row(9, numbers, 0)))
 }
 
 pub fn zone_row(repeated: bool, z: Zone) -> u8
     ensures { λ r. ⌜ r ≡ zoneRow repeated z ⌝ }
 {
-    let numbers = row(9, (2_000_000 < z.load) | (2_000_000 < z.losses), 0);
-    name_rows(&z.name, repeated, numbers)
+    let numbers = (2_000_000 < z.load) | (2_000_000 < z.losses);
+    name_rows(&z.name, repeated, row(9, numbers, 0))
 }
 
 pub fn unit_row(zones: usize, repeated: bool, u: Unit) -> u8
     ensures { λ r. ⌜ r ≡ unitRow zones repeated u ⌝ }
 {
-    let numbers = row(9, 2_000_000 < u.output, 0);
-    name_rows(
-        &u.name,
-        repeated,
-        row(8, no_zone_of(zones, u.zone), numbers),
-    )
+    let codes = no_zone_of(zones, u.zone);
+    let numbers = 2_000_000 < u.output;
+    name_rows(&u.name, repeated, row(8, codes, row(9, numbers, 0)))
 }
 
 pub fn point_row(zones: usize, repeated: bool, p: Point) -> u8
     ensures { λ r. ⌜ r ≡ pointRow zones repeated p ⌝ }
 {
-    let numbers = row(9, (200_000 < p.import) | (200_000 < p.export), 0);
     let codes = unlisted(p.sort) | place_unknown(zones, p.place);
-    name_rows(&p.name, repeated, row(8, codes, numbers))
+    let numbers = (200_000 < p.import) | (200_000 < p.export);
+    name_rows(&p.name, repeated, row(8, codes, row(9, numbers, 0)))
 }
 
 pub fn par_row(repeated: bool, p: Par) -> u8
     ensures { λ r. ⌜ r ≡ parRow repeated p ⌝ }
 {
-    let numbers = row(9, power_beyond(p.actual) | power_beyond(p.target), 0);
-    name_rows(&p.name, repeated, row(8, unlisted(p.class), numbers))
+    let codes = unlisted(p.class);
+    let numbers = power_beyond(p.actual) | power_beyond(p.target);
+    name_rows(&p.name, repeated, row(8, codes, row(9, numbers, 0)))
 }
 
 // Whether the factor is the one for d.
@@ -123,7 +121,7 @@ fn bears(f: Factor, d: due::Due) -> bool
 
 // Rows 10 and 11 of the factor behind n others.
 pub fn factor_row(zones: usize, units: usize, points: usize, pars: usize, n: usize, f: Factor) -> u8
-    requires { ⌜ (units ≤ 256) × (zones ≤ 32) × (points ≤ 32) × (pars ≤ 8) ⌝ }
+    requires { ⌜ Few zones units points pars ⌝ }
     ensures { λ r. ⌜ r ≡ factorRow (dueList zones units points pars) n f ⌝ }
 {
     if due::due_count(zones, units, points, pars) <= n {

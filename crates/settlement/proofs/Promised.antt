@@ -18,7 +18,7 @@ use Rattle.sheet.specs.declared.Outcome.{Outcome}
 use Rattle.sheet.specs.declared.Outcome.the-variants as outcome
 use Rattle.sheet.specs.Sheet.{readSheet, contentOf}
 use Rattle.sheet.proofs.Accepted.{valid}
-use Rattle.sheet.proofs.Numbered.{refused-some}
+use Rattle.sheet.proofs.Refusal.{refused-some}
 use Rattle.entitlements.specs.declared.Entitlement.{Entitlement}
 use Rattle.entitlements.specs.declared.Entitlement.the-variants as found
 use Rattle.entitlements.specs.Entitlements.{Entry, row14, entriesOf, lookUp, entitlement}

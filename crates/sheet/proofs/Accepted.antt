@@ -1,4 +1,4 @@
--- What an accepted sheet is: its content stands at the layout's places, and rows 1 to 13 leave of it what they should.
+-- What an accepted sheet is: its content stands at the layout's places, and rows 1 to 13 leave of it what they should. Assumes nothing.
 use Prim.Native.Nat.{ℕ, zero, suc, _+_, _-_, _≤_, _<_}
 use mathlib.Core.Path.{_≡_, refl, sym, ap, _∙_}
 use mathlib.Core.Bool.{Bool, true, false, not}
@@ -12,15 +12,15 @@ use lib.Seq.{length-take-le}
 use borrow.Author.Tests.{ltb-false, eqb-true, eqb-false, eq-eqb, not-false}
 use Rattle.fields.specs.Fields.{byteAt}
 use Rattle.due.specs.Due.{dueList, noDue, key, Asked}
-use Rattle.due.proofs.Laws.{below-or, getD-tab, due-stands}
-use Rattle.records.specs.Bodies.{byKind, bodyLength, bodyIn, headOf, zoneOf, unitOf, pointOf, parOf, factorOf}
+use Rattle.due.proofs.Tab.{below-or, getD-tab}
+use Rattle.due.proofs.Stands.{due-found}
+use Rattle.records.specs.Bodies.{byKind, bodyIn, headOf, zoneOf, unitOf, pointOf, parOf, factorOf}
 use Rattle.records.specs.Content.{Content, onlyIf, withRecord, noHead, noZone, noUnit, noPoint, noPar, noFactor, head, zone, unit, point, par, factorFor}
 use Rattle.records.specs.Valid.{HeadFits, ZoneFits, UnitFits, PointFits, ParFits, Valid}
 use Rattle.records.proofs.Passes.{row-pass, neither, FactorFits}
 use Rattle.layout.specs.declared.Layout.{Layout}
 use Rattle.layout.specs.Layout.{count, extent, Allowed, bodyAt, contentAt, layoutOf}
 use Rattle.layout.proofs.Laid.{Laid}
-use Rattle.layout.proofs.Contents.{body-whole}
 use Rattle.sheet.specs.declared.Outcome.the-variants.{Accepted}
 use Rattle.sheet.specs.Sheet.{firstRow, endRow, noZoneOrUnit, stillDue, dueOf, readSheet, contentOf}
 use Rattle.sheet.specs.Passed.{Passed, none, more}
@@ -102,8 +102,8 @@ module _ (s : List ℕ) (l : Layout) (e : readSheet s ≡ Accepted l) where
 
   factor-within : (target subject i : ℕ) → Asked (l .zones) (l .units) (l .points) (l .pars) target subject i → natAbs (factorFor (contentOf s .factors) target subject (i + 1)) ≤ 10000
   factor-within t j i a =
-      let d = due-stands (l .zones) (l .units) (l .points) (l .pars) t j i a in
-      rw (factor-is t j i (d .at) (d .below) (d .is)) (factor-fine (d .at) (omega (arith, due-number, d .below)) .factor)
+      let d = due-found (l .zones) (l .units) (l .points) (l .pars) t j i a in
+      rw (factor-is t j i (d .at) (d .stands .below) (d .stands .is)) (factor-fine (d .at) (omega (arith, due-number, d .stands .below)) .factor)
 
   -- what rows 1 to 13 leave
   pub valid : Valid (contentOf s)
@@ -131,13 +131,10 @@ module _ (s : List ℕ) (l : Layout) (e : readSheet s ≡ Accepted l) where
         factor-fits = λ t j i q. factor-within t j i (rw (← n .zones, ← n .units, ← n .points, ← n .pars) at q);
       }
 
-  -- the records at their places
-  pub whole : (kind i : ℕ) → 1 ≤ kind → kind ≤ 6 → i < count l kind → length (bodyAt s l kind i) ≡ bodyLength kind
-  whole k i g h a = body-whole s l k i (omega (arith, extent-is)) g h a
-
   pub some-head : 0 < l .heads
   some-head = omega (arith, one-head, counts .heads)
 
+  -- the records at their places
   pub head-is : head (contentOf s) ≡ headOf (bodyAt s l 1 0)
   unfolding contentAt
   head-is = rw content-is (getD-tab (λ i. headOf (bodyAt s l 1 i)) (l .heads) 0 noHead some-head)

@@ -1,4 +1,4 @@
--- Each record that has passed is fine, by its kind: its fields fit, and its name is well formed and new.
+-- Each record that has passed is fine, by its kind: its fields fit, and its name is well formed and new. Assumes nothing.
 use Prim.Native.Nat.{ℕ, zero, suc, _+_, _≤_, _<_}
 use mathlib.Core.Path.{_≡_, refl, sym, ap, _∙_}
 use mathlib.Core.Bool.{Bool, true, false}
@@ -9,7 +9,7 @@ use lib.ListN.{length, take, drop, getD, length-append, List·getD-append}
 use lib.Seq.{take-append-le, take-append-seam, getD-append-seam}
 use borrow.Author.Tests.{eqb-true, eqb-false}
 use Rattle.fields.specs.Fields.{byteAt}
-use Rattle.due.proofs.Laws.{below-or}
+use Rattle.due.proofs.Tab.{below-or}
 use Rattle.records.specs.declared.Head.{Head}
 use Rattle.records.specs.declared.Zone.{Zone}
 use Rattle.records.specs.declared.Unit.{Unit}

@@ -1,4 +1,4 @@
--- The factors of a sheet are those due, in their order: a look-up by key finds the one that stands where its key is due.
+-- The factors of a sheet are those due, in their order: a look-up by key finds the one that stands where its key is due. Assumes nothing.
 use Prim.Native.Nat.{ℕ, zero, suc, _+_, _≤_, _<_}
 use mathlib.Core.Path.{_≡_, refl, sym, ap, _∙_}
 use mathlib.Core.Bool.{Bool, true, false, _&&_}
@@ -9,7 +9,7 @@ use lib.ListN.{length, getD}
 use borrow.Author.Tests.{eqb-true, eq-eqb}
 use Rattle.due.specs.declared.Due.{Due}
 use Rattle.due.specs.Due.{dueList, noDue, key}
-use Rattle.due.proofs.Laws.{due-once}
+use Rattle.due.proofs.Once.{due-once}
 use Rattle.records.specs.declared.Factor.{Factor}
 use Rattle.records.specs.Content.{noFactor, bears, factorFor}
 use Rattle.records.proofs.Passes.{FactorFits}

@@ -1,4 +1,4 @@
--- What rows 2 to 5 leave of a record.
+-- What rows 2 to 5 leave of a record. Assumes nothing.
 use Prim.Native.Nat.{ℕ, zero, suc, _+_, _≤_, _<_}
 use mathlib.Core.Path.{_≡_, refl, sym, ap, _∙_}
 use mathlib.Core.Bool.{Bool, true, false, _&&_, _||_, cond}

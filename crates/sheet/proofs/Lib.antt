@@ -8,4 +8,3 @@ pub mod Accepted
 pub mod Long
 pub mod Refusal
 pub mod Named
-pub mod Numbered

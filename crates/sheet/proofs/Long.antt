@@ -1,4 +1,4 @@
--- A sheet's first 27,776 bytes decide: no accepted sheet is longer than 27,748 bytes, and in a longer one a record is refused that begins at or before that place.
+-- A sheet's first 27,776 bytes decide: no accepted sheet is longer than 27,748 bytes, and in a longer one a record is refused that begins at or before that place. Assumes nothing.
 use Prim.Native.Nat.{ℕ, zero, suc, _+_, _*_, _-_, _≤_, _<_}
 use mathlib.Core.Path.{_≡_, refl, sym, ap, _∙_}
 use mathlib.Core.Bool.{Bool, true, false}
@@ -9,7 +9,8 @@ use lib.ListN.{length, take, drop, length-take, length-drop}
 use lib.Seq.{take-all, take-nil, take-take, getD-take, length-take-le}
 use borrow.Author.Tests.{lt-ltb, le-ltb}
 use Rattle.fields.specs.Fields.{byteAt}
-use Rattle.due.proofs.Laws.{below-or, length-due, every-par}
+use Rattle.due.proofs.Tab.{below-or}
+use Rattle.due.proofs.Runs.{length-due, per-most}
 use Rattle.records.specs.Bodies.{bodyLength, bodyIn}
 use Rattle.records.specs.Content.{Content, noContent, withRecord}
 use Rattle.layout.specs.declared.Layout.{Layout}
@@ -36,7 +37,7 @@ few-factors {c = c} p =
 
 at-most : (l : Layout) → Allowed l → l .factors ≤ length (dueOf l) → extent l ≤ 27748
 at-most l a f =
-    omega (arith, extent-is l, length-due (l .zones) (l .units) (l .points) (l .pars), every-par (l .zones) (l .units) (l .points) (l .pars) (a .units) (a .zones) (a .points) (a .pars))
+    omega (arith, extent-is l, length-due (l .zones) (l .units) (l .points) (l .pars), per-most (l .zones) (l .units) (l .points) (l .pars) (a .few))
 
 -- no record begins, and no sheet ends, behind the longest sheet
 pub reach-short : {s : List ℕ} {at last : ℕ} {c : Content} → Passed s at last c → at ≤ 27748

@@ -1,4 +1,4 @@
--- What holds once the records before a place have all passed.
+-- What holds once the records before a place have all passed. Assumes nothing.
 use Prim.Native.Nat.{ℕ, zero, suc, _+_, _*_, _-_, _≤_, _<_}
 use mathlib.Core.Path.{_≡_, refl, sym, ap, _∙_}
 use mathlib.Core.Bool.{Bool, true, false}
@@ -79,17 +79,22 @@ module _ (s : List ℕ) where
 
   pub reach-allowed : {at last : ℕ} {c : Content} → Passed s at last c → Allowed (layoutOf c)
   unfolding layoutOf withRecord oneTooMany byKind
-  reach-allowed none = record { heads = omega arith; zones = omega arith; units = omega arith; points = omega arith; pars = omega arith }
+  reach-allowed none = record {
+    heads = omega arith;
+    few = record { zones-most = omega arith; units-most = omega arith; points-most = omega arith; pars-most = omega arith };
+  }
   reach-allowed (more {at} {last} {c} p h e) =
       let f = fronted s at last c h e in
       let a = reach-allowed p in
       let k = byteAt s at in
       record {
         heads = cap-next (c .heads) 1 k 1 _ (a .heads) (f .head);
-        zones = cap-next (c .zones) 32 k 2 _ (a .zones) (λ q. leb-false _ _ (rw q at (f .room)));
-        units = cap-next (c .units) 256 k 3 _ (a .units) (λ q. leb-false _ _ (rw q at (f .room)));
-        points = cap-next (c .points) 32 k 4 _ (a .points) (λ q. leb-false _ _ (rw q at (f .room)));
-        pars = cap-next (c .pars) 8 k 5 _ (a .pars) (λ q. leb-false _ _ (rw q at (f .room)));
+        few = record {
+          zones-most = cap-next (c .zones) 32 k 2 _ (a .few .zones-most) (λ q. leb-false _ _ (rw q at (f .room)));
+          units-most = cap-next (c .units) 256 k 3 _ (a .few .units-most) (λ q. leb-false _ _ (rw q at (f .room)));
+          points-most = cap-next (c .points) 32 k 4 _ (a .few .points-most) (λ q. leb-false _ _ (rw q at (f .room)));
+          pars-most = cap-next (c .pars) 8 k 5 _ (a .few .pars-most) (λ q. leb-false _ _ (rw q at (f .room)));
+        };
       }
 
   -- the loop's state: a layout alone, for the content at its places

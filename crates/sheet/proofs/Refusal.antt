@@ -1,14 +1,14 @@
--- Where a refusal points: the records before that place pass their rows, and the record there, or the sheet's end, meets the refusal's row.
+-- Where a refusal points: the records before that place pass their rows, and the record there, or the sheet's end, meets the refusal's row. Assumes nothing.
 use Prim.Native.Nat.{ℕ, suc, _+_, _-_, _≤_, _<_}
 use mathlib.Core.Path.{_≡_, refl, sym, ap, _∙_}
 use mathlib.Core.Bool.{Bool, true, false}
 use mathlib.Core.List.{List}
-use mathlib.Core.Logic.{⊎-elim}
+use mathlib.Core.Logic.{_⊎_, inl, inr, ⊎-elim}
 use native.Mathlib.Omega.{arith}
 use lib.ListN.{length, drop, length-drop}
 use borrow.Author.Tests.{lt-ltb, le-ltb}
 use Rattle.fields.specs.Fields.{byteAt}
-use Rattle.due.proofs.Laws.{below-or}
+use Rattle.due.proofs.Tab.{below-or}
 use Rattle.records.specs.Bodies.{bodyLength}
 use Rattle.records.specs.Content.{Content}
 use Rattle.records.specs.Rows.{row}
@@ -27,16 +27,21 @@ by-reading s number at (fails n p) e o f =
     let p-is : p ≡ at = cc in
     rw (n-is, p-is) at (rw e at (reading-told s f))
 
-pub refuses : (s : List ℕ) (number at : ℕ) → readSheet s ≡ Refused number at → 2 ≤ number → Refuses s number at
+-- row 1, or a row that a record or the sheet's end meets
+refusal : (s : List ℕ) (number at : ℕ) → readSheet s ≡ Refused number at → (number ≡ 1) ⊎ Refuses s number at
 unfolding readSheet
-refuses s number at e g =
+refusal s number at e =
     ⊎-elim
-    (λ (f : firstRow s ≡ 0). by-reading s number at (reading s) refl e f)
-    (λ (f : firstRow s ≡ 1).
-    let q = refused-first s f in
-    let z : 1 ≡ number = cc in
-    absurd (omega arith))
+    (λ (f : firstRow s ≡ 0). inr (by-reading s number at (reading s) refl e f))
+    (λ (f : firstRow s ≡ 1). let q = refused-first s f in inl (cc))
     (first-number s)
+
+pub refuses : (s : List ℕ) (number at : ℕ) → readSheet s ≡ Refused number at → 2 ≤ number → Refuses s number at
+refuses s number at e g = ⊎-elim (λ (q : number ≡ 1). absurd (omega arith)) (λ (r : Refuses s number at). r) (refusal s number at e)
+
+-- a refusal has a row's number
+pub refused-some : (s : List ℕ) (number at : ℕ) → readSheet s ≡ Refused number at → number ≡ 0 → ⊥
+refused-some s number at e z = ⊎-elim (λ (q : number ≡ 1). omega arith) (λ (r : Refuses s number at). r .some z) (refusal s number at e)
 
 -- the part of the sheet that a refusal points at
 pub record Points (s : List ℕ) (number at : ℕ) : Type 0 where

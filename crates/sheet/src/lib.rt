@@ -37,10 +37,11 @@ fn one_too_many(l: Layout, kind: u8) -> bool
 fn front_row(l: Layout, last: u8, kind: u8, left: usize) -> u8
     ensures { λ r. ⌜ r ≡ frontRow l last kind left 0 ⌝ }
 {
-    let out_of_order = (kind < last) | ((kind == 1) & (1 <= l.heads));
-    let in_order = row(4, out_of_order, row(5, one_too_many(l, kind), 0));
-    let whole = row(3, left < bodies::body_length(kind), in_order);
-    row(2, (kind < 1) | (6 < kind), whole)
+    let unknown = (kind < 1) | (6 < kind);
+    let short = left < bodies::body_length(kind);
+    let falls = (kind < last) | ((kind == 1) & (1 <= l.heads));
+    let surplus = one_too_many(l, kind);
+    row(2, unknown, row(3, short, row(4, falls, row(5, surplus, 0))))
 }
 
 // Rows 6 to 11 of the body b.
@@ -73,12 +74,8 @@ fn record_row(s: &[u8], l: Layout, last: u8, at: usize) -> u8
         return front;
     }
     let repeated = layout::repeated(s, l, kind, at);
-    body_row(
-        l,
-        kind,
-        repeated,
-        &s[from..from + bodies::body_length(kind)],
-    )
+    let to = from + bodies::body_length(kind);
+    body_row(l, kind, repeated, &s[from..to])
 }
 
 // Rows 12 and 13.
@@ -86,12 +83,9 @@ fn end_row(l: Layout) -> u8
     requires { ⌜ Allowed l ⌝ }
     ensures { λ r. ⌜ r ≡ endRow l ⌝ }
 {
-    let due = due::due_count(l.zones, l.units, l.points, l.pars);
-    row(
-        12,
-        (l.zones == 0) | (l.units == 0),
-        row(13, l.factors < due, 0),
-    )
+    let none = (l.zones == 0) | (l.units == 0);
+    let still_due = l.factors < due::due_count(l.zones, l.units, l.points, l.pars);
+    row(12, none, row(13, still_due, 0))
 }
 
 pub fn read(s: &[u8]) -> Outcome

@@ -13,7 +13,7 @@ use Rattle.integers.proofs.Tactic.{zi, zo}
 use Rattle.integers.proofs.Absolute.{abs-sub}
 use Rattle.integers.proofs.Sums.{sum-same}
 use Rattle.integers.proofs.Machine.{Op, rd, num-is, mul}
-use Rattle.due.specs.Due.{Asked, howMany, numIf}
+use Rattle.due.specs.Due.{Asked, howMany}
 use Rattle.layout.specs.declared.Layout.{Layout}
 use Rattle.records.specs.Content.{Content, point, par, factorFor}
 use Rattle.records.specs.Valid.{Valid}
@@ -58,7 +58,7 @@ power-within : {c : Content} → Valid c → (subject class i : ℕ) → i < mem
 unfolding members howMany powerOf
 power-within {c} v subject class i = by (eqb subject 1) (eqb subject 2) (eqb subject 3)
   where
-    by : (p q r : Bool) → i < numIf p (length (c .units)) (numIf q (length (c .zones)) (numIf r (length (c .points)) (length (c .pars)))) →
+    by : (p q r : Bool) → i < cond p (length (c .units)) (cond q (length (c .zones)) (cond r (length (c .points)) (length (c .pars)))) →
         natAbs (cond p (output c i) (cond q (zoneLoad c i) (cond r (gapIn (point c i .sort) class (pos (point c i .import)) (pos (point c i .export))) (gapIn (par c i .class) class (par c i .actual) (par c i .target))))) ≤ 10400000
     by true q r l = le-trans (output-within v i l) (lit≤ tt)
     by false true r l = zone-load-within v i l
@@ -78,7 +78,7 @@ module _ (s : List ℕ) (l : Layout) (e : readSheet s ≡ Accepted l) where
       v : Valid (contentOf s)
       v = valid s l e
 
-      by : (p q r : Bool) → numIf p (length (contentOf s .units)) (numIf q (length (contentOf s .zones)) (numIf r (length (contentOf s .points)) (length (contentOf s .pars)))) ≤ 256
+      by : (p q r : Bool) → cond p (length (contentOf s .units)) (cond q (length (contentOf s .zones)) (cond r (length (contentOf s .points)) (length (contentOf s .pars)))) ≤ 256
       by true q r = v .units-most
       by false true r = omega (arith, v .zones-most)
       by false false true = omega (arith, v .points-most)

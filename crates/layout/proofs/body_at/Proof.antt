@@ -1,7 +1,9 @@
+-- `body_at` meets its contract: the record ends within the sheet. Assumes nothing.
 use Prim.Native.Nat.{_+_, _*_, _≤_}
 use native.Mathlib.Omega.{arith}
 use native.Mathlib.Nat.{add-sub-cancel-left}
-use lib.ListN.{length}
+use lib.ListN.{drop, length, length-drop}
+use lib.Seq.{length-take-le}
 use borrow.Author.Needs.{needs}
 use denote.Ref.{now}
 use Rattle.layout.proofs.Places.{within}
@@ -48,7 +50,11 @@ part-result-end c = omega (arith, ends (c .before))
 returns : tie.Need-returns
 returns c =
     let b = c .before in
-    simp add-sub-cancel-left (rw (b .before .before .first-of .ensures, b .before .size-of .ensures .0, b .body-length .ensures))
+    let a = b .before .before .before .before .args in
+    let from = b .before .before .first-of .result + b .before .size-of .result * a .i + 1 in (
+      simp add-sub-cancel-left (rw (b .before .before .first-of .ensures, b .before .size-of .ensures .0, b .body-length .ensures)),
+      simp add-sub-cancel-left (rw (← b .body-length .ensures) (length-take-le _ (drop from (now (a .s))) (omega (arith, ends (b .before), length-drop from (now (a .s)))))),
+    )
 
 pub body-at-spec : {M : Type 1} → statement M
 body-at-spec =

@@ -1,3 +1,4 @@
+-- `counted` meets its contract: the counts stay far below their type's largest number. Assumes nothing.
 use native.Mathlib.Omega.{arith}
 use borrow.Author.Needs.{needs}
 use Rattle.layout.specs.Layout.{counted}

@@ -1,3 +1,4 @@
+-- `repeated` meets its contract: the names at the places are the content's. Assumes nothing.
 use Prim.Native.Nat.{_-_, _+_, _*_}
 use mathlib.Core.Path.{_≡_, sym}
 use native.Mathlib.Omega.{arith}

@@ -1,3 +1,4 @@
+-- `size_of` meets its contract. Assumes nothing.
 use native.Mathlib.Omega.{arith}
 use borrow.Author.Needs.{needs}
 use Rattle.layout.proofs.ByKind.{length-most}

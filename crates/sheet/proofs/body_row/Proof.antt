@@ -1,3 +1,4 @@
+-- `body_row` meets its contract, kind by kind. Assumes nothing.
 use mathlib.Core.Path.{_≡_}
 use borrow.Author.Needs.{needs}
 use Rattle.layout.proofs.ByKind.{sixth}

@@ -1,3 +1,4 @@
+-- `factor_at` meets its contract: the factor stands where its key is due. Assumes nothing.
 use Prim.Native.Nat.{_<_}
 use mathlib.Core.Path.{sym, _∙_}
 use native.Mathlib.Omega.{arith}
@@ -5,13 +6,13 @@ use mir.Facts.{toZ-ofZ, sfits-widen}
 use mir.Val.{SFits}
 use mir.Syntax.{w16, w64}
 use Rattle.records.specs.Bodies.{byKind}
-use Rattle.sheet.proofs.Accepted.{extent-is, allowed, all-due, whole, factor-is, factor-there}
+use Rattle.sheet.proofs.Accepted.{extent-is, allowed, all-due, factor-is, factor-there}
 use Rattle.sheet.proofs.factor_at.Statement.{statement}
 use Rattle.sheet.proofs.factor_at.Tie as tie
 
 -- the sheet has the factor that is due there
 there : (c : tie.After-due-place) → c .due-place .result < c .before .before .args .l .factors
-there c = omega (arith, c .due-place .ensures .0, all-due _ _ (c .before .before .pre .0))
+there c = omega (arith, c .due-place .ensures .below, all-due _ _ (c .before .before .pre .0))
 
 told : (c : tie.After-struct-told) → SFits w16 (c .before .before .factor-of .result .factor)
 told c = record { sfits = c .struct-told .given .1 .1 .1 .0 .1 }
@@ -19,8 +20,7 @@ told c = record { sfits = c .struct-told .given .1 .1 .1 .0 .1 }
 due-place-requires : tie.Need-due-place-requires
 due-place-requires c κs =
     let p = c .before .pre in
-    let a = allowed _ _ (p .0) in
-    (a .units, a .zones, a .points, a .pars, p .1)
+    (allowed _ _ (p .0) .few, p .1)
 
 body-at-requires : tie.Need-body-at-requires
 unfolding byKind
@@ -30,9 +30,7 @@ body-at-requires c κs =
 
 factor-of-requires : tie.Need-factor-of-requires
 unfolding byKind
-factor-of-requires c κs =
-    let p = c .before .before .before in
-    rw (c .body-at .ensures) (omega (arith, whole _ _ (p .pre .0) 6 _ (omega arith) (omega arith) (there (c .before))))
+factor-of-requires c κs = omega (arith, c .body-at .ensures .1)
 
 cast-result : tie.Need-cast-result
 cast-result c = rw (toZ-ofZ {w = w16} (told c)) (sfits-widen tt (told c))
@@ -43,8 +41,8 @@ returns c =
     let d = b .before in
     let p = d .before .before in
     let n = d .due-place .result in
-    rw (toZ-ofZ {w = w64} (cast-result c), toZ-ofZ {w = w16} (told c), c .before .before .factor-of .ensures, b .body-at .ensures)
-    (sym (factor-is _ _ (p .pre .0) (p .args .target) (p .args .subject) (p .args .i) n (d .due-place .ensures .0) (d .due-place .ensures .1) ∙ rw (factor-there _ _ (p .pre .0) n (there d))))
+    rw (toZ-ofZ {w = w64} (cast-result c), toZ-ofZ {w = w16} (told c), c .before .before .factor-of .ensures, b .body-at .ensures .0)
+    (sym (factor-is _ _ (p .pre .0) (p .args .target) (p .args .subject) (p .args .i) n (d .due-place .ensures .below) (d .due-place .ensures .is) ∙ rw (factor-there _ _ (p .pre .0) n (there d))))
 
 pub factor-at-spec : {M : Type 1} → statement M
 factor-at-spec =

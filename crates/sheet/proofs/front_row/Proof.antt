@@ -1,7 +1,11 @@
+-- `front_row` meets its contract. Assumes nothing.
 use borrow.Author.Needs.{needs}
 use Rattle.sheet.specs.Sheet.{frontRow}
 use Rattle.sheet.proofs.front_row.Statement.{statement}
 use Rattle.sheet.proofs.front_row.Tie as tie
+
+body-length-requires : tie.Need-body-length-requires
+body-length-requires c κs = search needs
 
 one-too-many-requires : tie.Need-one-too-many-requires
 one-too-many-requires c κs = search needs
@@ -12,9 +16,6 @@ row-requires c κs = search needs
 row-requires-2 : tie.Need-row-requires-2
 row-requires-2 c κs = search needs
 
-body-length-requires : tie.Need-body-length-requires
-body-length-requires c κs = search needs
-
 row-requires-3 : tie.Need-row-requires-3
 row-requires-3 c κs = search needs
 
@@ -23,16 +24,18 @@ row-requires-4 c κs = search needs
 
 returns : tie.Need-returns
 unfolding frontRow
-returns c = cc
+returns c =
+    let m = c .before .before .before .before in
+    rw (c .row4 .ensures, c .before .row3 .ensures, c .before .before .row2 .ensures, c .before .before .before .row .ensures, m .one-too-many .ensures, m .before .before .body-length .ensures)
 
 pub front-row-spec : {M : Type 1} → statement M
 front-row-spec =
     tie.close
     (tie.spec
+    body-length-requires
     one-too-many-requires
     row-requires
     row-requires-2
-    body-length-requires
     row-requires-3
     row-requires-4
     returns)

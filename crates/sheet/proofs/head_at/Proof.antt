@@ -1,6 +1,7 @@
+-- `head_at` meets its contract. Assumes nothing.
 use native.Mathlib.Omega.{arith}
 use Rattle.records.specs.Bodies.{byKind}
-use Rattle.sheet.proofs.Accepted.{extent-is, whole, some-head, head-is}
+use Rattle.sheet.proofs.Accepted.{extent-is, some-head, head-is}
 use Rattle.sheet.proofs.head_at.Statement.{statement}
 use Rattle.sheet.proofs.head_at.Tie as tie
 
@@ -12,14 +13,10 @@ body-at-requires c κs =
 
 head-of-requires : tie.Need-head-of-requires
 unfolding byKind
-head-of-requires c κs =
-    let p = c .before .before .pre in
-    rw (c .body-at .ensures) (omega (arith, whole _ _ p 1 0 (omega arith) (omega arith) (some-head _ _ p)))
+head-of-requires c κs = omega (arith, c .body-at .ensures .1)
 
 returns : tie.Need-returns
-returns c =
-    let p = c .before .before .before .pre in
-    rw (head-is _ _ p, ← c .before .body-at .ensures) (c .head-of .ensures)
+returns c = rw (head-is _ _ (c .before .before .before .pre), ← c .before .body-at .ensures .0) (c .head-of .ensures)
 
 pub head-at-spec : {M : Type 1} → statement M
 head-at-spec = tie.close (tie.spec body-at-requires head-of-requires returns)

@@ -1,3 +1,4 @@
+-- `one_too_many` meets its contract. Assumes nothing.
 use mathlib.Core.Path.{sym}
 use lib.Dec.{eqb}
 use borrow.Author.Tests.{ne-eqb}

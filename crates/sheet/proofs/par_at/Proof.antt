@@ -1,6 +1,7 @@
+-- `par_at` meets its contract. Assumes nothing.
 use native.Mathlib.Omega.{arith}
 use Rattle.records.specs.Bodies.{byKind}
-use Rattle.sheet.proofs.Accepted.{extent-is, whole, par-is}
+use Rattle.sheet.proofs.Accepted.{extent-is, par-is}
 use Rattle.sheet.proofs.par_at.Statement.{statement}
 use Rattle.sheet.proofs.par_at.Tie as tie
 
@@ -12,14 +13,12 @@ body-at-requires c κs =
 
 par-of-requires : tie.Need-par-of-requires
 unfolding byKind
-par-of-requires c κs =
-    let p = c .before .before in
-    rw (c .body-at .ensures) (omega (arith, whole _ _ (p .pre .0) 5 (p .args .i) (omega arith) (omega arith) (p .pre .1)))
+par-of-requires c κs = omega (arith, c .body-at .ensures .1)
 
 returns : tie.Need-returns
 returns c =
     let p = c .before .before .before in
-    rw (par-is _ _ (p .pre .0) (p .args .i) (p .pre .1), ← c .before .body-at .ensures) (c .par-of .ensures)
+    rw (par-is _ _ (p .pre .0) (p .args .i) (p .pre .1), ← c .before .body-at .ensures .0) (c .par-of .ensures)
 
 pub par-at-spec : {M : Type 1} → statement M
 par-at-spec = tie.close (tie.spec body-at-requires par-of-requires returns)

@@ -1,6 +1,7 @@
+-- `point_at` meets its contract. Assumes nothing.
 use native.Mathlib.Omega.{arith}
 use Rattle.records.specs.Bodies.{byKind}
-use Rattle.sheet.proofs.Accepted.{extent-is, whole, point-is}
+use Rattle.sheet.proofs.Accepted.{extent-is, point-is}
 use Rattle.sheet.proofs.point_at.Statement.{statement}
 use Rattle.sheet.proofs.point_at.Tie as tie
 
@@ -12,14 +13,12 @@ body-at-requires c κs =
 
 point-of-requires : tie.Need-point-of-requires
 unfolding byKind
-point-of-requires c κs =
-    let p = c .before .before in
-    rw (c .body-at .ensures) (omega (arith, whole _ _ (p .pre .0) 4 (p .args .i) (omega arith) (omega arith) (p .pre .1)))
+point-of-requires c κs = omega (arith, c .body-at .ensures .1)
 
 returns : tie.Need-returns
 returns c =
     let p = c .before .before .before in
-    rw (point-is _ _ (p .pre .0) (p .args .i) (p .pre .1), ← c .before .body-at .ensures) (c .point-of .ensures)
+    rw (point-is _ _ (p .pre .0) (p .args .i) (p .pre .1), ← c .before .body-at .ensures .0) (c .point-of .ensures)
 
 pub point-at-spec : {M : Type 1} → statement M
 point-at-spec = tie.close (tie.spec body-at-requires point-of-requires returns)

@@ -1,3 +1,4 @@
+-- `read` meets its contract. The loop's invariant: the records before `at` have passed, `l` counts them, and what is left answers for the whole. Assumes nothing.
 use Prim.Native.Nat.{_-_}
 use mathlib.Core.Path.{_≡_, sym, _∙_}
 use native.Mathlib.Omega.{arith}

@@ -1,3 +1,4 @@
+-- `record_row` meets its contract: where rows 2 to 5 pass the body is whole and stands behind the others of its kind. Assumes nothing.
 use Prim.Native.Nat.{_+_, _-_}
 use mathlib.Core.Path.{sym, _∙_}
 use native.Mathlib.Omega.{arith}
@@ -47,8 +48,8 @@ repeated-requires c κs =
 body-length-requires : tie.Need-body-length-requires
 body-length-requires c κs = search needs
 
-add-body-row : tie.Need-add-body-row
-add-body-row c = omega (arith, passes (c .before .before) .fits)
+add-to : tie.Need-add-to
+add-to c = omega (arith, passes (c .before .before) .fits)
 
 sub-body-row : tie.Need-sub-body-row
 sub-body-row c = search needs
@@ -91,7 +92,7 @@ record-row-spec =
     returns
     repeated-requires
     body-length-requires
-    add-body-row
+    add-to
     sub-body-row
     part-body-row-start
     part-body-row-end

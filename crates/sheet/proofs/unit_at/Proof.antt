@@ -1,6 +1,7 @@
+-- `unit_at` meets its contract. Assumes nothing.
 use native.Mathlib.Omega.{arith}
 use Rattle.records.specs.Bodies.{byKind}
-use Rattle.sheet.proofs.Accepted.{extent-is, whole, unit-is}
+use Rattle.sheet.proofs.Accepted.{extent-is, unit-is}
 use Rattle.sheet.proofs.unit_at.Statement.{statement}
 use Rattle.sheet.proofs.unit_at.Tie as tie
 
@@ -12,14 +13,12 @@ body-at-requires c κs =
 
 unit-of-requires : tie.Need-unit-of-requires
 unfolding byKind
-unit-of-requires c κs =
-    let p = c .before .before in
-    rw (c .body-at .ensures) (omega (arith, whole _ _ (p .pre .0) 3 (p .args .i) (omega arith) (omega arith) (p .pre .1)))
+unit-of-requires c κs = omega (arith, c .body-at .ensures .1)
 
 returns : tie.Need-returns
 returns c =
     let p = c .before .before .before in
-    rw (unit-is _ _ (p .pre .0) (p .args .i) (p .pre .1), ← c .before .body-at .ensures) (c .unit-of .ensures)
+    rw (unit-is _ _ (p .pre .0) (p .args .i) (p .pre .1), ← c .before .body-at .ensures .0) (c .unit-of .ensures)
 
 pub unit-at-spec : {M : Type 1} → statement M
 unit-at-spec = tie.close (tie.spec body-at-requires unit-of-requires returns)

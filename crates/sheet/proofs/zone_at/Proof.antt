@@ -1,6 +1,7 @@
+-- `zone_at` meets its contract. Assumes nothing.
 use native.Mathlib.Omega.{arith}
 use Rattle.records.specs.Bodies.{byKind}
-use Rattle.sheet.proofs.Accepted.{extent-is, whole, zone-is}
+use Rattle.sheet.proofs.Accepted.{extent-is, zone-is}
 use Rattle.sheet.proofs.zone_at.Statement.{statement}
 use Rattle.sheet.proofs.zone_at.Tie as tie
 
@@ -12,14 +13,12 @@ body-at-requires c κs =
 
 zone-of-requires : tie.Need-zone-of-requires
 unfolding byKind
-zone-of-requires c κs =
-    let p = c .before .before in
-    rw (c .body-at .ensures) (omega (arith, whole _ _ (p .pre .0) 2 (p .args .i) (omega arith) (omega arith) (p .pre .1)))
+zone-of-requires c κs = omega (arith, c .body-at .ensures .1)
 
 returns : tie.Need-returns
 returns c =
     let p = c .before .before .before in
-    rw (zone-is _ _ (p .pre .0) (p .args .i) (p .pre .1), ← c .before .body-at .ensures) (c .zone-of .ensures)
+    rw (zone-is _ _ (p .pre .0) (p .args .i) (p .pre .1), ← c .before .body-at .ensures .0) (c .zone-of .ensures)
 
 pub zone-at-spec : {M : Type 1} → statement M
 zone-at-spec = tie.close (tie.spec body-at-requires zone-of-requires returns)

@@ -1,3 +1,4 @@
+-- `by_kind` meets its contract. Assumes nothing.
 use borrow.Author.Tests.{ne-eqb}
 use Rattle.records.specs.Bodies.{byKind}
 use Rattle.records.proofs.bodies.by_kind.Statement.{statement}

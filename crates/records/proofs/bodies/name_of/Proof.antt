@@ -1,3 +1,4 @@
+-- `name_of` meets its contract: the body's first 16 bytes one by one. Assumes nothing.
 use borrow.Author.Needs.{needs}
 use denote.Ref.{now}
 use Rattle.records.proofs.Front.{front-is}

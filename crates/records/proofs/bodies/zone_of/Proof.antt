@@ -1,3 +1,4 @@
+-- `zone_of` meets its contract. Assumes nothing.
 use borrow.Author.Needs.{needs}
 use Rattle.records.specs.Bodies.{zoneOf}
 use Rattle.records.proofs.bodies.zone_of.Statement.{statement}

@@ -1,3 +1,4 @@
+-- `bears` meets its contract. Assumes nothing.
 use borrow.Author.Needs.{needs}
 use Rattle.records.specs.Content.{bears}
 use Rattle.records.proofs.rows.bears.Statement.{statement}

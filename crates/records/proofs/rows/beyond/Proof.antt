@@ -1,3 +1,4 @@
+-- `beyond` meets its contract. Assumes nothing.
 use mir.Facts.{toZ-ofZ, toZ-pos}
 use mir.Syntax.{w64}
 use borrow.Author.Needs.{needs}

@@ -1,3 +1,4 @@
+-- `factor_beyond` meets its contract: a number of 16 bits keeps its value in 64. Assumes nothing.
 use mir.Facts.{toZ-ofZ, sfits-widen}
 use mir.Syntax.{w16, w64}
 use borrow.Author.Needs.{needs}

@@ -1,3 +1,4 @@
+-- `factor_row` meets its contract: none due, or the rows of the one due. Assumes nothing.
 use mir.Facts.{toZ-ofZ}
 use mir.Syntax.{w16}
 use borrow.Author.Tests.{le-leb, lt-leb}

@@ -1,7 +1,11 @@
+-- `head_row` meets its contract. Assumes nothing.
 use borrow.Author.Needs.{needs}
 use Rattle.records.specs.Rows.{headRow}
 use Rattle.records.proofs.rows.head_row.Statement.{statement}
 use Rattle.records.proofs.rows.head_row.Tie as tie
+
+unlisted-requires : tie.Need-unlisted-requires
+unlisted-requires c κs = search needs
 
 cast-outside : tie.Need-cast-outside
 cast-outside c = search needs
@@ -11,9 +15,6 @@ outside-requires c κs = search needs
 
 row-requires : tie.Need-row-requires
 row-requires c κs = search needs
-
-unlisted-requires : tie.Need-unlisted-requires
-unlisted-requires c κs = search needs
 
 row-requires-2 : tie.Need-row-requires-2
 row-requires-2 c κs = search needs
@@ -25,16 +26,16 @@ returns : tie.Need-returns
 unfolding headRow
 returns c =
     let n = c .before .before .before .before .before .before in
-    rw (c .name-rows .ensures, c .before .row2 .ensures, c .before .before .unlisted .ensures, n .row .ensures, n .before .outside .ensures)
+    rw (c .name-rows .ensures, c .before .row2 .ensures, c .before .before .row .ensures, n .outside .ensures, n .before .unlisted .ensures)
 
 pub head-row-spec : {M : Type 1} → statement M
 head-row-spec =
     tie.close
     (tie.spec
+    unlisted-requires
     cast-outside
     outside-requires
     row-requires
-    unlisted-requires
     row-requires-2
     name-rows-requires
     returns)

@@ -1,3 +1,4 @@
+-- `name_rows` meets its contract. Assumes nothing.
 use borrow.Author.Needs.{needs}
 use Rattle.records.proofs.rows.name_rows.Statement.{statement}
 use Rattle.records.proofs.rows.name_rows.Tie as tie

@@ -1,3 +1,4 @@
+-- `place_unknown` meets its contract. Assumes nothing.
 use borrow.Author.Needs.{needs}
 use Rattle.records.proofs.rows.place_unknown.Statement.{statement}
 use Rattle.records.proofs.rows.place_unknown.Tie as tie

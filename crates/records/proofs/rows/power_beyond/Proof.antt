@@ -1,3 +1,4 @@
+-- `power_beyond` meets its contract: a number of 32 bits keeps its value in 64. Assumes nothing.
 use mir.Facts.{toZ-ofZ, sfits-widen}
 use mir.Syntax.{w32, w64}
 use borrow.Author.Needs.{needs}

@@ -1,13 +1,14 @@
+-- `unit_row` meets its contract. Assumes nothing.
 use borrow.Author.Needs.{needs}
 use Rattle.records.specs.Rows.{unitRow}
 use Rattle.records.proofs.rows.unit_row.Statement.{statement}
 use Rattle.records.proofs.rows.unit_row.Tie as tie
 
-row-requires : tie.Need-row-requires
-row-requires c κs = search needs
-
 no-zone-of-requires : tie.Need-no-zone-of-requires
 no-zone-of-requires c κs = search needs
+
+row-requires : tie.Need-row-requires
+row-requires c κs = search needs
 
 row-requires-2 : tie.Need-row-requires-2
 row-requires-2 c κs = search needs
@@ -17,10 +18,8 @@ name-rows-requires c κs = search needs
 
 returns : tie.Need-returns
 unfolding unitRow
-returns c =
-    let b = c .before .before in
-    rw (c .name-rows .ensures, c .before .row2 .ensures, b .no-zone-of .ensures, b .before .before .before .before .row .ensures)
+returns c = rw (c .name-rows .ensures, c .before .row2 .ensures, c .before .before .row .ensures, c .before .before .before .before .before .before .no-zone-of .ensures)
 
 pub unit-row-spec : {M : Type 1} → statement M
 unit-row-spec =
-    tie.close (tie.spec row-requires no-zone-of-requires row-requires-2 name-rows-requires returns)
+    tie.close (tie.spec no-zone-of-requires row-requires row-requires-2 name-rows-requires returns)

@@ -1,3 +1,4 @@
+-- `zone_row` meets its contract. Assumes nothing.
 use borrow.Author.Needs.{needs}
 use Rattle.records.specs.Rows.{zoneRow}
 use Rattle.records.proofs.rows.zone_row.Statement.{statement}
@@ -11,7 +12,7 @@ name-rows-requires c κs = search needs
 
 returns : tie.Need-returns
 unfolding zoneRow
-returns c = rw (c .name-rows .ensures, c .before .before .before .before .row .ensures)
+returns c = rw (c .name-rows .ensures, c .before .row .ensures)
 
 pub zone-row-spec : {M : Type 1} → statement M
 zone-row-spec = tie.close (tie.spec row-requires name-rows-requires returns)
