@@ -78,6 +78,14 @@ pub record Reached (mask : ℕ) (s : List ℕ) (first stride at n k : ℕ) : Typ
   pub own : latest mask s first stride (hashAt mask s at) k ≡ k
   pub whole : among s (nameAt s at) first stride k ≡ among s (nameAt s at) first stride n
 
+-- The name that the search has come to: it stands before the one sought, and either is that one or the search goes on at the link
+pub record Looked (mask : ℕ) (s : List ℕ) (first stride at n base : ℕ) (t : List ℕ) (last : ℕ) : Type 0 where
+  pub room : mask + last < length t
+  pub place : first + stride * (last - base - 1) ≤ first + stride * n
+  pub less : getD t (mask + last) 0 < last
+  pub found : sameList (nameAt s (first + stride * (last - base - 1))) (nameAt s at) ≡ true → among s (nameAt s at) first stride n ≡ true
+  pub next : sameList (nameAt s (first + stride * (last - base - 1))) (nameAt s at) ≡ false → Reached mask s first stride at n (getD t (mask + last) 0 - base)
+
 module _ (mask : ℕ) (s : List ℕ) (first stride at n : ℕ) where
   reached : (k : ℕ) → k ≤ n → among s (nameAt s at) first stride k ≡ among s (nameAt s at) first stride n →
       Reached mask s first stride at n (latest mask s first stride (hashAt mask s at) k)
@@ -119,23 +127,23 @@ module _ (mask : ℕ) (s : List ℕ) (first stride at n : ℕ) where
           let l = r .few in
           rw (e, x .links k (omega arith), latest-hash mask s first stride (hashAt mask s at) k (here .own))
 
-      pub search-found : sameList (nameAt s (first + stride * (last - base - 1))) (nameAt s at) ≡ true → among s (nameAt s at) first stride n ≡ true
-      search-found = name-reached (last - base - 1) here
-
-      pub search-next : sameList (nameAt s (first + stride * (last - base - 1))) (nameAt s at) ≡ false → Reached mask s first stride at n (getD t (mask + last) 0 - base)
-      search-next e = rw linked (next-reached (last - base - 1) here e)
-
-      pub search-less : getD t (mask + last) 0 < last
-      search-less = omega (arith, linked, latest-le mask s first stride (hashAt mask s at) (last - base - 1))
-
-      pub search-room : mask + last < length t
-      search-room = let m = x .room in let l = r .few in omega arith
-
-      pub search-place : first + stride * (last - base - 1) ≤ first + stride * n
-      search-place =
+      placed : first + stride * (last - base - 1) ≤ first + stride * n
+      placed =
           let l = r .few in
           let m : stride * (last - base - 1) ≤ stride * n = mul-le-mul-left stride (omega arith) in
           omega arith
+
+      pub search-on : Looked mask s first stride at n base t last
+      search-on =
+          let m = x .room in
+          let l = r .few in
+          record {
+            room = omega arith;
+            place = placed;
+            less = omega (arith, linked, latest-le mask s first stride (hashAt mask s at) (last - base - 1));
+            found = name-reached (last - base - 1) here;
+            next = λ e. rw linked (next-reached (last - base - 1) here e);
+          }
 
 -- The table
 module _ (mask : ℕ) (s : List ℕ) (first stride base : ℕ) where
@@ -209,4 +217,4 @@ module _ (mask : ℕ) (s : List ℕ) (first stride base : ℕ) where
 
     pub added : Indexed mask s first stride base (n + 1) (set (set t (mask + 1 + (base + n)) (getD t h 0)) h (base + n + 1))
     unfolding grown link
-    added = rw add-one (record { room = omega (arith, grown-length); heads = head-now; links = link-now })
+    added = rw (add-one n) (record { room = omega (arith, grown-length); heads = head-now; links = link-now })
