@@ -4,7 +4,7 @@ ghost use Prim.Native.Nat.{_+_, _*_, _≤_, _<_, _^_};
 ghost use lib.ListN.{length, drop};
 ghost use Rattle.records.specs.Bodies.{bodyLength, bodyIn};
 ghost use Rattle.records.specs.Rows.{repeats};
-ghost use Rattle.layout.specs.Layout.{one, count, counted, size, firstOf, startOf, extent, bodyAt, contentAt};
+ghost use Rattle.layout.specs.Layout.{one, noRecords, count, counted, size, firstOf, startOf, extent, bodyAt, contentAt};
 
 pub struct Layout {
     pub heads: usize,
@@ -13,6 +13,19 @@ pub struct Layout {
     pub points: usize,
     pub pars: usize,
     pub factors: usize,
+}
+
+pub fn no_records() -> Layout
+    ensures { λ r. ⌜ r ≡ noRecords ⌝ }
+{
+    Layout {
+        heads: 0,
+        zones: 0,
+        units: 0,
+        points: 0,
+        pars: 0,
+        factors: 0,
+    }
 }
 
 pub fn count_of(l: Layout, kind: u8) -> usize

@@ -97,14 +97,7 @@ pub fn read(s: &[u8]) -> Outcome
     if s[0] != 1 {
         return Outcome::Refused(1, 0);
     }
-    let mut l = Layout {
-        heads: 0,
-        zones: 0,
-        units: 0,
-        points: 0,
-        pars: 0,
-        factors: 0,
-    };
+    let mut l = layout::no_records();
     let mut last = 0;
     let mut at = 0;
     while at < s.len() {

@@ -1,6 +1,7 @@
 -- `read` meets its contract. The loop's invariant: the records before `at` have passed, `l` counts them, and what is left answers for the whole. Assumes nothing.
-use Prim.Native.Nat.{_-_}
+use Prim.Native.Nat.{ℕ, _-_}
 use mathlib.Core.Path.{_≡_, sym, _∙_}
+use mathlib.Core.List.{List}
 use native.Mathlib.Omega.{arith}
 use lib.ListN.{length, drop}
 use borrow.Author.Tests.{eq-eqb, ne-eqb}
@@ -34,10 +35,17 @@ returns-2 c =
     let s = now (c .before .before .before .before .args .s) in
     sym (read-first s (first-other s (c .if2 .taken)))
 
+no-records-requires : tie.Need-no-records-requires Inv-loop μ-loop
+no-records-requires c κs = search needs
+
 loop-holds : tie.Need-loop-holds Inv-loop μ-loop
 loop-holds c =
-    let s = now (c .before .before .before .before .args .s) in
-    rw (none-at s) (none, read-on s (first-head s (c .before .before .if1 .left) (c .if2 .left)))
+    let p = c .before .before .before in
+    let s = now (p .before .before .args .s) in
+    rw (c .no-records .ensures, none-at s) (none, read-on s (first-head s (p .if1 .left) (c .before .if2 .left)))
+
+abbrev bytes : tie.At-loop Inv-loop μ-loop → List ℕ
+bytes p = now (p .before .before .before .before .before .before .args .s)
 
 record-row-requires : tie.Need-record-row-requires Inv-loop μ-loop
 record-row-requires c κs = (c .before .loop .inv .0, c .loop-test .taken)
@@ -45,8 +53,9 @@ record-row-requires c κs = (c .before .loop .inv .0, c .loop-test .taken)
 returns-3 : tie.Need-returns-3 Inv-loop μ-loop
 unfolding readSheet
 returns-3 c =
-    let l = c .before .before .before .loop in
-    let s = now (c .before .before .before .before .before .before .before .before .args .s) in
+    let p = c .before .before .before in
+    let s = bytes p in
+    let l = p .loop in
     let e = c .before .record-row .ensures in
     rw (← l .inv .1, from-refused s (l .at) (l .last) (contentAt s (l .l)) (c .before .before .loop-test .taken) (λ q. c .if3 .taken (e ∙ q)), e)
 
@@ -66,10 +75,10 @@ body-length-requires c κs = search needs
 
 add-at-2 : tie.Need-add-at-2 Inv-loop μ-loop
 add-at-2 c =
-    let p = c .before .before in
-    let l = p .before .before .before .before .loop in
-    let q = sym (p .before .before .record-row .ensures) ∙ p .before .if3 .left in
-    let f = at-fronted _ (l .at) (l .last) (l .l) (l .inv .0) (p .before .before .before .loop-test .taken) q in
+    let r = c .before .before .before .before in
+    let l = r .before .before .loop in
+    let q = sym (r .record-row .ensures) ∙ c .before .before .before .if3 .left in
+    let f = at-fronted _ (l .at) (l .last) (l .l) (l .inv .0) (r .before .loop-test .taken) q in
     omega (arith, f .fits, c .body-length .ensures)
 
 loop-less : tie.Need-loop-less Inv-loop μ-loop
@@ -77,11 +86,11 @@ loop-less c = omega arith
 
 loop-again : tie.Need-loop-again Inv-loop μ-loop
 loop-again c =
-    let p = c .before .before in
-    let l = p .before .before .before .before .loop in
-    let s = now (p .before .before .before .before .before .before .before .before .before .args .s) in
-    let h = p .before .before .before .loop-test .taken in
-    let q = sym (p .before .before .record-row .ensures) ∙ p .before .if3 .left in
+    let r = c .before .before .before .before in
+    let s = bytes (r .before .before) in
+    let l = r .before .before .loop in
+    let h = r .before .loop-test .taken in
+    let q = sym (r .record-row .ensures) ∙ c .before .before .before .if3 .left in
     rw (c .before .counted .ensures, c .body-length .ensures, ← at-next s (l .at) (l .last) (l .l) (l .inv .0) h q)
     (more (l .inv .0) h q, from-next s (l .at) (l .last) (contentAt s (l .l)) h q ∙ l .inv .1)
 
@@ -91,15 +100,17 @@ end-row-requires c κs = at-allowed _ _ _ _ (c .before .loop .inv .0)
 returns-4 : tie.Need-returns-4 Inv-loop μ-loop
 unfolding readSheet
 returns-4 c =
-    let l = c .before .before .before .loop in
-    let s = now (c .before .before .before .before .before .before .before .before .args .s) in
+    let p = c .before .before .before in
+    let s = bytes p in
+    let l = p .loop in
     rw (← l .inv .1, from-end s (l .at) (l .last) (contentAt s (l .l)) (c .before .before .loop-test .left), layout-at s (l .l), ← c .before .end-row .ensures, ne-eqb _ _ (c .if4 .taken))
 
 returns-5 : tie.Need-returns-5 Inv-loop μ-loop
 unfolding readSheet
 returns-5 c =
-    let l = c .before .before .before .loop in
-    let s = now (c .before .before .before .before .before .before .before .before .args .s) in
+    let p = c .before .before .before in
+    let s = bytes p in
+    let l = p .loop in
     rw (← l .inv .1, from-end s (l .at) (l .last) (contentAt s (l .l)) (c .before .before .loop-test .left), layout-at s (l .l), ← c .before .end-row .ensures, eq-eqb _ _ (c .if4 .left), layout-at s (l .l))
 
 pub read-spec : {M : Type 1} → statement M
@@ -111,6 +122,7 @@ read-spec =
     returns
     shared-slice-read-if2
     returns-2
+    no-records-requires
     loop-holds
     record-row-requires
     returns-3
