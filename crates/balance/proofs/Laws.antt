@@ -13,7 +13,7 @@ use lib.Signed.{leZ, ltZ}
 use lib.ListN.{length, getD}
 use Rattle.integers.specs.Sum.{sumTo}
 use Rattle.integers.proofs.Machine.{Op, rd, num-is, num-u, sub}
-use Rattle.integers.proofs.Sums.{sum-same, sum-pick, sum-swap, sum-abs}
+use Rattle.integers.proofs.Sums.{sum-same, sum-pick, sum-abs}
 use Rattle.records.specs.declared.Place.{Place}
 use Rattle.records.specs.declared.Place.the-variants.{Proxy, Line}
 use Rattle.records.specs.Content.{Content, zone, unit, point}
@@ -60,20 +60,6 @@ module _ (c : Content) (v : Valid c) where
   pub proxy-exports-are : sumAt c exports 0 ≡ proxyExports c
   unfolding sumAt bookings bookedAt bookingOf pointBooking proxyExports proxyExport
   proxy-exports-are = sum-same _ _ (length (c .points)) (λ i l. proxy-is (point c i .place) _ (point c i .export) (v .point-fits i l .place))
-
-  -- every unit is in one of the sheet's zones
-  in-one : (i : ℕ) → i < length (c .units) → sumTo (λ z. outputIn c z i) (length (c .zones)) ≡ output c i
-  unfolding outputIn
-  in-one i l =
-      let u = v .unit-fits i l in
-      let k : unit c i .zone ≡ unit c i .zone - 1 + 1 = omega (arith, u .zone-least) in
-      sum-pick (λ z. cond (eqb (unit c i .zone) (z + 1)) (output c i) (pos 0)) (length (c .zones)) (unit c i .zone - 1) (omega (arith, u .zone-least, u .zone-most))
-      (λ z m n. rw (ne-eqb (unit c i .zone) (z + 1) (λ e. n (omega arith))))
-      ∙ rw (eq-eqb (unit c i .zone) (unit c i .zone - 1 + 1) k)
-
-  pub gross-output-is : sumTo (zoneOutput c) (length (c .zones)) ≡ grossOutput c
-  unfolding zoneOutput grossOutput
-  gross-output-is = sum-swap (outputIn c) (length (c .zones)) (length (c .units)) ∙ sum-same _ _ (length (c .units)) (λ i l. in-one i l)
 
 -- the difference at a zone, as the machine works it out, and its bound
 module _ (p m : List ℕ) (hp : Small p) (hm : Small m) (z : ℕ) (h : z < 32) where

@@ -11,10 +11,11 @@ use Rattle.integers.proofs.Sums.{sum-same, all-same}
 use Rattle.records.specs.Content.{Content}
 use Rattle.records.specs.Valid.{Valid}
 use Rattle.figures.specs.Balance.{totalLoad, zoneLoad, netLoad, finalLoad, zoneOutput, zoneGeneration, netGeneration, finalGeneration, grossOutput, grossLoad, atLeastZero, grossAboveLimit, zoneLoadBelowZero, finalLoadNotAboveZero, zoneGenerationBelowZero, netGenerationZero, finalGenerationBelowZero, balanceRow}
+use Rattle.figures.proofs.Bounds.{gross-output-is}
 use Rattle.balance.specs.declared.Side.{Side}
 use Rattle.balance.specs.Ledger.{loads, outputs, imports, exports, Sums, netAt, ZoneLoads}
 use Rattle.balance.specs.Balance.{sideOf, grossRow, loadRow, generationRow, rowOf}
-use Rattle.balance.proofs.Laws.{outputs-are, imports-are, exports-are, loads-are, proxy-imports-are, proxy-exports-are, gross-output-is}
+use Rattle.balance.proofs.Laws.{outputs-are, imports-are, exports-are, loads-are, proxy-imports-are, proxy-exports-are}
 use Rattle.balance.proofs.Bookings.{zeros, small-of}
 
 -- a side from what its arrays hold at each zone: g before anything is taken off, f after

@@ -1,27 +1,22 @@
 -- No factor is due twice. Assumes nothing.
-use Prim.Native.Nat.{ℕ, _+_, _*_, _-_, _/_, _%_, _≤_, _<_}
+use Prim.Native.Nat.{ℕ, _+_, _-_, _/_, _%_, _<_}
 use mathlib.Core.Path.{_≡_, refl, sym, ap, _∙_}
-use mathlib.Core.Bool.{cond}
 use native.Mathlib.Nat.{div-add-mod', mod-lt}
 use native.Mathlib.Omega.{arith}
-use lib.Dec.{eqb}
 use lib.ListN.{length, getD}
 use borrow.Author.Tests.{ne-eqb}
 use Rattle.due.specs.declared.Due.{Due}
-use Rattle.due.specs.Due.{dueList, noDue, offset}
+use Rattle.due.specs.Due.{dueList, noDue, offset, start}
 use Rattle.due.proofs.Tab.{below-or}
 use Rattle.due.proofs.Runs.{every, whole, in-units, in-zones, in-points, in-pars, some-each, due-first, due-later}
 
 module _ (zones units points : ℕ) where
   -- the place that a key names
-  abbrev start : ℕ → ℕ → ℕ
-  start pars t = cond (eqb t 0) 0 (every zones units points + pars + (t - 1) * every zones units points)
-
-  abbrev within : Due → ℕ
+  abbrev pub within : Due → ℕ
   within d = offset zones units points (d .subject) + (d .index - 1)
 
-  abbrev placeOf : ℕ → Due → ℕ
-  placeOf pars d = start pars (d .target) + within d
+  abbrev pub placeOf : ℕ → Due → ℕ
+  placeOf pars d = start zones units points pars (d .target) + within d
 
   record InPlace (t i : ℕ) (d : Due) : Type 0 where
     target : d .target ≡ t
@@ -38,7 +33,8 @@ module _ (zones units points : ℕ) where
       (λ c. rw (in-points zones units points t pars i a b c) (record { target = refl; at = omega arith }))
       (λ c. rw (in-pars zones units points t pars i (omega arith) (omega arith)) (record { target = refl; at = omega arith }))))
 
-  due-place : (pars n : ℕ) → n < length (dueList zones units points pars) → placeOf pars (getD (dueList zones units points pars) n noDue) ≡ n
+  pub due-place : (pars n : ℕ) → n < length (dueList zones units points pars) → placeOf pars (getD (dueList zones units points pars) n noDue) ≡ n
+  unfolding start
   due-place pars n h =
       let q = every zones units points in
       below-or n (q + pars)

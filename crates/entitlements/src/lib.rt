@@ -55,7 +55,7 @@ fn record_fault(list: &[u8], at: usize, n: usize, mask: usize, table: &mut [u16]
     if MOST_RECORDS <= n {
         return true;
     }
-    if index::seen_or_added(list, from, 1, RECORD, 0, n, mask, table) {
+    if index::seen_before(list, from, 1, RECORD, 0, n, mask, table) {
         return true;
     }
     (list[at] != KIND) | entry_fault(&list[from..])

@@ -1,28 +1,20 @@
 -- Laws of the index: a table with nothing in it, with one name more, and what the names of one hash say of all before. Assumes nothing.
 use Prim.Native.Nat.{ℕ, zero, suc, _+_, _*_, _-_, _%_, _≤_, _<_}
 use mathlib.Core.Path.{_≡_, refl, sym, ap, _∙_}
-use mathlib.Core.Bool.{Bool, true, false, _||_, or-false, or-true}
-use mathlib.Core.List.{List, [], _∷_}
+use mathlib.Core.Bool.{Bool, true, false, or-false, or-true}
+use mathlib.Core.List.{List}
 use native.Mathlib.Nat.{add-assoc, mul-le-mul-left}
 use native.Mathlib.Numerals.{add-one}
 use native.Mathlib.Omega.{arith}
-use borrow.Author.Tests.{eq-eqb, ne-eqb, eqb-true, eqb-false}
+use borrow.Author.Tests.{eq-eqb, ne-eqb}
 use lib.Bits.{and-le-r}
-use lib.Dec.{eqb}
 use lib.ListN.{length, getD, set, replicate, length-set, length-replicate}
 use lib.Seq.{getD-set-same, getD-set-other}
 use Rattle.fields.specs.Fields.{be64}
+use Rattle.fields.proofs.Laws.{equal-or}
 use Rattle.names.specs.Names.{nameAt, sameList, among}
 use Rattle.names.proofs.Laws.{same-words, among-last}
 use Rattle.index.specs.Index.{hashOf, hashAt, latest, Indexed}
-
--- two cases: equal, or not
-by-eq : {P : Type 0} (m n : ℕ) → (m ≡ n → P) → ((m ≡ n → ⊥) → P) → P
-by-eq m n p q = go (eqb m n) refl p q
-  where
-    go : {P : Type 0} (b : Bool) → eqb m n ≡ b → (m ≡ n → P) → ((m ≡ n → ⊥) → P) → P
-    go true e p q = p (eqb-true _ _ e)
-    go false e p q = q (eqb-false _ _ e)
 
 pub hash-small : (mask : ℕ) (s : List ℕ) (at : ℕ) → hashAt mask s at ≤ mask
 unfolding hashAt hashOf
@@ -53,7 +45,7 @@ module _ (mask : ℕ) (s : List ℕ) (first stride : ℕ) where
   unfolding latest
   latest-le h zero = omega arith
   latest-le h (suc n) =
-      by-eq (hashAt mask s (first + stride * n)) h
+      equal-or (hashAt mask s (first + stride * n)) h
       (λ e. omega (arith, latest-here h n e))
       (λ e. omega (arith, latest-on h n e, latest-le h n))
 
@@ -61,13 +53,13 @@ module _ (mask : ℕ) (s : List ℕ) (first stride : ℕ) where
   unfolding latest
   latest-again h zero = refl
   latest-again h (suc n) =
-      by-eq (hashAt mask s (first + stride * n)) h
+      equal-or (hashAt mask s (first + stride * n)) h
       (λ e. rw (latest-here h n e) (latest-here h n e))
       (λ e. rw (latest-on h n e) (latest-again h n))
 
   latest-hash : (h n : ℕ) → latest mask s first stride h (suc n) ≡ suc n → hashAt mask s (first + stride * n) ≡ h
   latest-hash h n e =
-      by-eq (hashAt mask s (first + stride * n)) h
+      equal-or (hashAt mask s (first + stride * n)) h
       (λ q. q)
       (λ q. absurd (omega (arith, latest-on h n q, latest-le h n)))
 
@@ -76,7 +68,7 @@ module _ (mask : ℕ) (s : List ℕ) (first stride : ℕ) where
   unfolding latest
   among-latest at zero = refl
   among-latest at (suc n) =
-      by-eq (hashAt mask s (first + stride * n)) (hashAt mask s at)
+      equal-or (hashAt mask s (first + stride * n)) (hashAt mask s at)
       (λ e. rw (latest-here (hashAt mask s at) n e))
       (λ e. rw (latest-on (hashAt mask s at) n e, among-last s (nameAt s at) first stride n, other-name mask s (first + stride * n) at e, or-false) (among-latest at n))
 
@@ -85,6 +77,14 @@ pub record Reached (mask : ℕ) (s : List ℕ) (first stride at n k : ℕ) : Typ
   pub few : k ≤ n
   pub own : latest mask s first stride (hashAt mask s at) k ≡ k
   pub whole : among s (nameAt s at) first stride k ≡ among s (nameAt s at) first stride n
+
+-- The name that the search has come to: it stands before the one sought, and either is that one or the search goes on at the link
+pub record Looked (mask : ℕ) (s : List ℕ) (first stride at n base : ℕ) (t : List ℕ) (last : ℕ) : Type 0 where
+  pub room : mask + last < length t
+  pub place : first + stride * (last - base - 1) ≤ first + stride * n
+  pub less : getD t (mask + last) 0 < last
+  pub found : sameList (nameAt s (first + stride * (last - base - 1))) (nameAt s at) ≡ true → among s (nameAt s at) first stride n ≡ true
+  pub next : sameList (nameAt s (first + stride * (last - base - 1))) (nameAt s at) ≡ false → Reached mask s first stride at n (getD t (mask + last) 0 - base)
 
 module _ (mask : ℕ) (s : List ℕ) (first stride at n : ℕ) where
   reached : (k : ℕ) → k ≤ n → among s (nameAt s at) first stride k ≡ among s (nameAt s at) first stride n →
@@ -127,23 +127,23 @@ module _ (mask : ℕ) (s : List ℕ) (first stride at n : ℕ) where
           let l = r .few in
           rw (e, x .links k (omega arith), latest-hash mask s first stride (hashAt mask s at) k (here .own))
 
-      pub search-found : sameList (nameAt s (first + stride * (last - base - 1))) (nameAt s at) ≡ true → among s (nameAt s at) first stride n ≡ true
-      search-found = name-reached (last - base - 1) here
-
-      pub search-next : sameList (nameAt s (first + stride * (last - base - 1))) (nameAt s at) ≡ false → Reached mask s first stride at n (getD t (mask + last) 0 - base)
-      search-next e = rw linked (next-reached (last - base - 1) here e)
-
-      pub search-less : getD t (mask + last) 0 < last
-      search-less = omega (arith, linked, latest-le mask s first stride (hashAt mask s at) (last - base - 1))
-
-      pub search-room : mask + last < length t
-      search-room = let m = x .room in let l = r .few in omega arith
-
-      pub search-place : first + stride * (last - base - 1) ≤ first + stride * n
-      search-place =
+      placed : first + stride * (last - base - 1) ≤ first + stride * n
+      placed =
           let l = r .few in
           let m : stride * (last - base - 1) ≤ stride * n = mul-le-mul-left stride (omega arith) in
           omega arith
+
+      pub search-on : Looked mask s first stride at n base t last
+      search-on =
+          let m = x .room in
+          let l = r .few in
+          record {
+            room = omega arith;
+            place = placed;
+            less = omega (arith, linked, latest-le mask s first stride (hashAt mask s at) (last - base - 1));
+            found = name-reached (last - base - 1) here;
+            next = λ e. rw linked (next-reached (last - base - 1) here e);
+          }
 
 -- The table
 module _ (mask : ℕ) (s : List ℕ) (first stride base : ℕ) where
@@ -205,16 +205,16 @@ module _ (mask : ℕ) (s : List ℕ) (first stride base : ℕ) where
 
     head-now : (k : ℕ) → k ≤ mask → getD grown k 0 - base ≡ latest mask s first stride k (suc n)
     head-now k l =
-        by-eq k h
+        equal-or k h
         (λ q. omega (arith, ap (λ (i : ℕ). getD grown i 0) q, head-at, latest-here mask s first stride k n (sym e ∙ sym q)))
         (λ q. omega (arith, other-at k q (λ r. omega arith), x .heads k l, latest-on mask s first stride k n (λ r. q (sym r ∙ sym e))))
 
     link-now : (j : ℕ) → j < suc n → getD grown (mask + 1 + base + j) 0 - base ≡ latest mask s first stride (hashAt mask s (first + stride * j)) j
     link-now j l =
-        by-eq j n
+        equal-or j n
         (λ q. rw (q, add-assoc (mask + 1) base n, ← e) (omega (arith, link-at, x .heads h small)))
         (λ q. omega (arith, other-at (mask + 1 + base + j) (λ r. omega (arith, small)) (λ r. omega arith), x .links j (omega arith)))
 
     pub added : Indexed mask s first stride base (n + 1) (set (set t (mask + 1 + (base + n)) (getD t h 0)) h (base + n + 1))
     unfolding grown link
-    added = rw add-one (record { room = omega (arith, grown-length); heads = head-now; links = link-now })
+    added = rw (add-one n) (record { room = omega (arith, grown-length); heads = head-now; links = link-now })

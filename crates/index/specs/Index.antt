@@ -1,13 +1,12 @@
 -- An index of names by their hashes: for each hash the latest name that has it, and for each name the latest before it that has the same. Assumes nothing.
 use Prim.Native.Nat.{ℕ, zero, suc, _+_, _*_, _-_, _%_, _≤_, _<_}
 use mathlib.Core.Path.{_≡_}
-use mathlib.Core.Bool.{Bool, false, cond}
+use mathlib.Core.Bool.{cond}
 use mathlib.Core.List.{List}
 use lib.Bits.{bitAnd}
 use lib.Dec.{eqb}
 use lib.ListN.{length, getD}
 use Rattle.fields.specs.Fields.{be64}
-use Rattle.names.specs.Names.{nameAt, among}
 
 -- the hash of a name, from its two words of eight bytes: a number up to `mask`
 unfoldable pub hashOf : ℕ → ℕ → ℕ → ℕ
@@ -26,8 +25,3 @@ pub record Indexed (mask : ℕ) (s : List ℕ) (first stride base n : ℕ) (tabl
   pub room : mask + 1 + base + n ≤ length table
   pub heads : (h : ℕ) → h ≤ mask → getD table h 0 - base ≡ latest mask s first stride h n
   pub links : (j : ℕ) → j < n → getD table (mask + 1 + base + j) 0 - base ≡ latest mask s first stride (hashAt mask s (first + stride * j)) j
-
--- what is said of the name at a place: whether it is among the n names; if it is not, the table that is left holds it as the next
-pub record Answered (mask : ℕ) (s : List ℕ) (at first stride base n : ℕ) (seen : Bool) (table : List ℕ) : Type 0 where
-  pub told : seen ≡ among s (nameAt s at) first stride n
-  pub added : seen ≡ false → Indexed mask s first stride base (n + 1) table

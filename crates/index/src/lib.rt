@@ -3,7 +3,7 @@ ghost use mathlib.Core.Path.{_≡_};
 ghost use Prim.Native.Nat.{_+_, _*_, _≤_, _<_};
 ghost use lib.ListN.{length, getD, set};
 ghost use Rattle.names.specs.Names.{nameAt, among};
-ghost use Rattle.index.specs.Index.{hashOf, hashAt, Indexed, Answered};
+ghost use Rattle.index.specs.Index.{hashOf, hashAt, Indexed};
 
 // The hash of a name, from its two words of eight bytes.
 fn hash(high: u64, low: u64, mask: usize) -> usize
@@ -57,8 +57,8 @@ fn add(table: &mut [u16], mask: usize, h: usize, count: usize)
     table[h] = (count + 1) as u16;
 }
 
-// Whether the name at `at` is one of the n names that stand at `first`, `first + stride`, ..; if it is not, the table holds it too.
-pub fn seen_or_added(
+// Whether the name at `at` is one of the n names that stand at `first`, `first + stride`, ..; the table then holds it with them.
+pub fn seen_before(
     s: &[u8],
     at: usize,
     first: usize,
@@ -69,12 +69,10 @@ pub fn seen_or_added(
     table: &mut [u16],
 ) -> bool
     requires { ⌜ (at ≡ first + stride * n) × (at + 16 ≤ length (now s)) × (base + n < 65535) × (mask + 1 + (base + n) < length (now table)) × Indexed mask (now s) first stride base n (now table) ⌝ }
-    ensures { λ r. ⌜ Answered mask (now (s .entry)) at first stride base n r (now (table .exit)) ⌝ }
+    ensures { λ r. ⌜ (r ≡ among (now (s .entry)) (nameAt (now (s .entry)) at) first stride n) × Indexed mask (now (s .entry)) first stride base (n + 1) (now (table .exit)) ⌝ }
 {
     let h = hash_at(s, at, mask);
-    if listed(s, at, first, stride, base, n, mask, h, table) {
-        return true;
-    }
+    let seen = listed(s, at, first, stride, base, n, mask, h, table);
     add(table, mask, h, base + n);
-    false
+    seen
 }

@@ -4,7 +4,11 @@ ghost use Prim.Native.Nat.{_+_, _*_, _≤_, _<_, _^_};
 ghost use lib.ListN.{length, drop};
 ghost use Rattle.records.specs.Bodies.{bodyLength, bodyIn};
 ghost use Rattle.records.specs.Rows.{repeats};
-ghost use Rattle.layout.specs.Layout.{one, noRecords, count, counted, size, firstOf, startOf, extent, bodyAt, contentAt};
+ghost use Rattle.layout.specs.Layout.{one, count, counted, size, firstOf, startOf, extent, bodyAt, contentAt, Allowed};
+ghost use Rattle.layout.specs.Listed.{named, Listed};
+
+// Of the index of names: its hashes are up to this.
+const MASK: usize = 511;
 
 pub struct Layout {
     pub heads: usize,
@@ -13,19 +17,6 @@ pub struct Layout {
     pub points: usize,
     pub pars: usize,
     pub factors: usize,
-}
-
-pub fn no_records() -> Layout
-    ensures { λ r. ⌜ r ≡ noRecords ⌝ }
-{
-    Layout {
-        heads: 0,
-        zones: 0,
-        units: 0,
-        points: 0,
-        pars: 0,
-        factors: 0,
-    }
 }
 
 pub fn count_of(l: Layout, kind: u8) -> usize
@@ -93,10 +84,17 @@ pub fn body_at(s: &[u8], l: Layout, kind: u8, i: usize) -> &[u8]
     &s[from..from + records::bodies::body_length(kind)]
 }
 
-// Whether the record at `at`, behind the others of its kind, has the name of one of them.
-pub fn repeated(s: &[u8], l: Layout, kind: u8, at: usize) -> bool
-    requires { ⌜ (1 ≤ kind) × (kind ≤ 6) × (at ≡ startOf l kind (count l kind)) × (at + size kind ≤ length (now s)) ⌝ }
-    ensures { λ r. ⌜ r ≡ repeats (contentAt (now (s .entry)) l) kind (bodyIn kind (drop (at + 1) (now (s .entry)))) ⌝ }
+fn named_of(l: Layout) -> usize
+    requires { ⌜ Allowed l ⌝ }
+    ensures { λ r. ⌜ (r ≡ named l) × (r ≤ 329) ⌝ }
+{
+    l.heads + l.zones + l.units + l.points + l.pars
+}
+
+// Whether the record at `at`, behind the others of its kind, has the name of one of them. The table, which holds their names, then holds its name too.
+pub fn repeated(s: &[u8], l: Layout, kind: u8, at: usize, table: &mut [u16]) -> bool
+    requires { ⌜ (1 ≤ kind) × (kind ≤ 6) × (at ≡ startOf l kind (count l kind)) × (at + size kind ≤ length (now s)) × Allowed l × Listed (now s) l kind (now table) ⌝ }
+    ensures { λ r. ⌜ (r ≡ repeats (contentAt (now (s .entry)) l) kind (bodyIn kind (drop (at + 1) (now (s .entry))))) × Listed (now (s .entry)) (counted l kind) kind (now (table .exit)) ⌝ }
 {
     if kind == 6 {
         return false;
@@ -104,5 +102,6 @@ pub fn repeated(s: &[u8], l: Layout, kind: u8, at: usize) -> bool
     let n = count_of(l, kind);
     let stride = size_of(kind);
     let first = at - stride * n + 1;
-    names::seen(s, at + 1, first, stride, n)
+    let below = named_of(l) - n;
+    index::seen_before(s, at + 1, first, stride, below, n, MASK, table)
 }

@@ -40,7 +40,7 @@ fn amount_of(h: Head, difference: i64) -> i64
 }
 
 fn paid_to(h: Head, amount: i64, rto: u8) -> i64
-    requires { ⌜ natAbs amount ≤ 7200000000000000000 ⌝ }
+    requires { ⌜ natAbs amount ≤ 2000000000000 ⌝ }
     ensures { λ r. ⌜ r ≡ paid h amount rto ⌝ }
 {
     if h.monitoring_rto == rto {

@@ -6,7 +6,8 @@ ghost use Rattle.fields.specs.Fields.{byteAt};
 ghost use Rattle.due.specs.Due.{Asked};
 ghost use Rattle.records.specs.Bodies.{bodyLength};
 ghost use Rattle.records.specs.Content.{head, zone, unit, point, par, factorFor};
-ghost use Rattle.layout.specs.Layout.{Allowed, contentAt};
+ghost use Rattle.layout.specs.Layout.{counted, Allowed, contentAt};
+ghost use Rattle.layout.specs.Listed.{Listed};
 ghost use Rattle.sheet.specs.declared.Outcome.the-variants.{Accepted};
 ghost use Rattle.sheet.specs.Sheet.{oneTooMany, frontRow, bodyRow, recordRow, endRow, readSheet, contentOf};
 ghost use Rattle.sheet.specs.Passed.{Passed};
@@ -62,10 +63,10 @@ fn body_row(l: Layout, kind: u8, repeated: bool, b: &[u8]) -> u8
     }
 }
 
-// The first row that fits the record at a place, or 0.
-fn record_row(s: &[u8], l: Layout, last: u8, at: usize) -> u8
-    requires { ⌜ Passed (now s) at last (contentAt (now s) l) × (at < length (now s)) ⌝ }
-    ensures { λ r. ⌜ r ≡ recordRow (contentAt (now (s .entry)) l) last (byteAt (now (s .entry)) at) (drop (at + 1) (now (s .entry))) ⌝ }
+// The first row that fits the record at a place, or 0. The table holds the names of the last kind, then of this record's.
+fn record_row(s: &[u8], l: Layout, last: u8, at: usize, table: &mut [u16]) -> u8
+    requires { ⌜ Passed (now s) at last (contentAt (now s) l) × (at < length (now s)) × Listed (now s) l last (now table) ⌝ }
+    ensures { λ r. ⌜ (r ≡ recordRow (contentAt (now (s .entry)) l) last (byteAt (now (s .entry)) at) (drop (at + 1) (now (s .entry)))) × (r ≡ 0 → Listed (now (s .entry)) (counted l (byteAt (now (s .entry)) at)) (byteAt (now (s .entry)) at) (now (table .exit))) ⌝ }
 {
     let kind = s[at];
     let from = at + 1;
@@ -73,7 +74,7 @@ fn record_row(s: &[u8], l: Layout, last: u8, at: usize) -> u8
     if front != 0 {
         return front;
     }
-    let repeated = layout::repeated(s, l, kind, at);
+    let repeated = layout::repeated(s, l, kind, at, table);
     let to = from + bodies::body_length(kind);
     body_row(l, kind, repeated, &s[from..to])
 }
@@ -97,11 +98,19 @@ pub fn read(s: &[u8]) -> Outcome
     if s[0] != 1 {
         return Outcome::Refused(1, 0);
     }
-    let mut l = layout::no_records();
+    let mut l = Layout {
+        heads: 0,
+        zones: 0,
+        units: 0,
+        points: 0,
+        pars: 0,
+        factors: 0,
+    };
+    let mut table = [0u16; 842];
     let mut last = 0;
     let mut at = 0;
     while at < s.len() {
-        let number = record_row(s, l, last, at);
+        let number = record_row(s, l, last, at, &mut table);
         if number != 0 {
             return Outcome::Refused(number, at);
         }

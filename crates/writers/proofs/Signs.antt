@@ -1,13 +1,11 @@
 -- Laws of the decimal text of an i64. Assumes nothing.
-use mathlib.Core.Path.{_≡_, refl, sym, ap, _∙_}
-use mathlib.Core.Bool.{true, false}
+use mathlib.Core.Path.{_≡_, refl, ap}
 use mathlib.Core.List.{List, _++_}
-use Prim.Native.Nat.{ℕ, suc, _-_, _≤_, _<_, _^_}
+use Prim.Native.Nat.{ℕ, _≤_}
 use native.Mathlib.Omega.{arith}
-use borrow.Author.Tests.{ltb-true, le-ltb}
-use lib.IntN.{ℤ, pos, negsuc, natAbs, _-ℤ_}
+use lib.IntN.{ℤ, pos, negsuc, natAbs}
 use lib.ListN.{length}
-use lib.Signed.{ltZ, mag, natAbs-le}
+use lib.Signed.{natAbs-le}
 use mir.Syntax.{w64}
 use mir.Val.{toZ, ofZ, SFits}
 use mir.ValLaws.{toZ-ofZ}
@@ -15,27 +13,6 @@ use Rattle.writers.specs.Text.{ascii, natural, decimal}
 use Rattle.writers.specs.Written.{Wrote}
 use Rattle.writers.proofs.Decimal.{natural-length}
 use Rattle.writers.proofs.Writing.{renamed}
-
--- -1 less a negative number
-pub less-one : (n : ℕ) → negsuc 0 -ℤ negsuc n ≡ pos n
-less-one n =
-    let e : suc n - 1 ≡ n = omega arith in
-    rw (le-ltb (suc n) 1 (omega arith), e) refl
-
-below : (z : ℤ) → mag z < 2 ^ 63 → ltZ z (pos 0) ≡ true → (n : ℕ) × (z ≡ negsuc n) × (n < 2 ^ 63)
-below (pos n) h t = absurd (let k : n < 0 = ltb-true n 0 t in omega arith)
-below (negsuc n) h t = (n, refl, h)
-
-above : (z : ℤ) → mag z < 2 ^ 63 → ltZ z (pos 0) ≡ false → (n : ℕ) × (z ≡ pos n) × (n < 2 ^ 63)
-above (pos n) h t = (n, refl, h)
-above (negsuc n) h t = absurd (let z : _≡_ {A = ℕ} 0 1 = cc in omega arith)
-
--- what the test `z < 0` says of an i64
-pub negative : (z : ℤ) → SFits w64 z → ltZ (toZ w64 (ofZ w64 z)) (pos 0) ≡ true → (n : ℕ) × (z ≡ negsuc n) × (n < 2 ^ 63)
-negative z f t = below z (f .sfits) (sym (ap (λ (y : ℤ). ltZ y (pos 0)) (toZ-ofZ w64 z f)) ∙ t)
-
-pub not-negative : (z : ℤ) → SFits w64 z → ltZ (toZ w64 (ofZ w64 z)) (pos 0) ≡ false → (n : ℕ) × (z ≡ pos n) × (n < 2 ^ 63)
-not-negative z f t = above z (f .sfits) (sym (ap (λ (y : ℤ). ltZ y (pos 0)) (toZ-ofZ w64 z f)) ∙ t)
 
 pub magnitude-room : (z : ℤ) → SFits w64 z → (m : ℕ) → m ≡ natAbs z → length (natural m) ≤ 19
 magnitude-room z f m e = natural-length 18 m (omega (arith, natAbs-le z (f .sfits)))

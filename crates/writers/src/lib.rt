@@ -2,7 +2,6 @@
 // wrote; bytes behind these stay as before.
 ghost use mathlib.Core.Path.{_≡_};
 ghost use Prim.Native.Nat.{_*_, _≤_, _<_};
-ghost use lib.IntN.{natAbs};
 ghost use lib.ListN.{length};
 ghost use Rattle.writers.specs.Text.{digit as Text·digit, natural, decimal, pair, unfilled, hexadecimal};
 ghost use Rattle.writers.specs.Written.{Wrote};
@@ -37,20 +36,13 @@ fn put_natural(n: u64, out: &mut [u8]) -> usize
     k + 1
 }
 
-// The distance of z from zero.
-fn magnitude(z: i64) -> u64
-    ensures { λ r. ⌜ r ≡ natAbs z ⌝ }
-{
-    if z < 0 { (-1 - z) as u64 + 1 } else { z as u64 }
-}
-
 // z in decimal, a minus before a negative one.
 pub fn put_decimal(z: i64, out: &mut [u8]) -> usize
     requires { ⌜ 20 ≤ length (now out) ⌝ }
     ensures { λ r. ⌜ Wrote (decimal z) (now (out .entry)) (now (out .exit)) r ⌝ }
     ensures { λ r. ⌜ r ≤ 20 ⌝ }
 {
-    let m = magnitude(z);
+    let m = integers::magnitude(z);
     if z < 0 {
         let mut n = put(b"-", out);
         n += put_natural(m, &mut out[n..]);

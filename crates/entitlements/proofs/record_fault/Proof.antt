@@ -29,8 +29,8 @@ returns-2 c =
     let a = c .before .before .before .before .args in
     record { told = sym (fault-full _ _ _ (rw (first-count (now (a .list)) (a .n)) (c .if2 .taken))); added = λ e. absurd (true≢false e) }
 
-seen-or-added-requires : tie.Need-seen-or-added-requires
-seen-or-added-requires c κs =
+seen-before-requires : tie.Need-seen-before-requires
+seen-before-requires c κs =
     let p = c .before .before .before .before .before in
     let r = p .pre .2 .room (p .args .n) (c .before .if2 .left) (omega arith) in
     (omega arith, omega arith, omega arith, omega arith, p .pre .3)
@@ -39,11 +39,11 @@ same-length : tie.Need-same-length
 same-length c = search needs
 
 -- what the index says of the name
-repeated-is : (c : tie.After-seen-or-added) →
+repeated-is : (c : tie.After-seen-before) →
     let a = c .before .before .before .before .before .before .args in
-    c .seen-or-added .result ≡ repeated (firstEntries (now (a .list)) (a .n)) (entryOf (drop (a .at + 1) (now (a .list))) .name)
+    c .seen-before .result ≡ repeated (firstEntries (now (a .list)) (a .n)) (entryOf (drop (a .at + 1) (now (a .list))) .name)
 unfolding entryOf
-repeated-is c = c .seen-or-added .ensures .told ∙ seen-repeated _ _ _
+repeated-is c = c .seen-before .ensures .0 ∙ seen-repeated _ _ _
 
 returns-3 : tie.Need-returns-3
 returns-3 c = record { told = sym (fault-twice _ _ _ (sym (repeated-is (c .before .before .before)) ∙ c .if3 .taken)); added = λ e. absurd (true≢false e) }
@@ -77,7 +77,7 @@ returns-4 c =
     let w : 20 ≤ length (drop (a .at + 1) s) = rw (length-drop (a .at + 1) s) (q .before .if1 .left) in
     let f : length (firstEntries s (a .n)) < mostRecords = rw (first-count s (a .n)) (q .if2 .left) in
     let e = rw (tail-part s (a .at + 1)) at (c .entry-fault .ensures) in
-    record { told = rw (fault-new _ _ _ w f (sym (repeated-is x) ∙ t .if3 .left), e); added = λ u. x .seen-or-added .ensures .added (t .if3 .left) }
+    record { told = rw (fault-new _ _ _ w f (sym (repeated-is x) ∙ t .if3 .left), e); added = λ u. x .seen-before .ensures .1 }
 
 pub record-fault-spec : {M : Type 1} → statement M
 record-fault-spec =
@@ -87,7 +87,7 @@ record-fault-spec =
     sub-if1
     returns
     returns-2
-    seen-or-added-requires
+    seen-before-requires
     same-length
     returns-3
     shared-slice-read-result

@@ -6,7 +6,7 @@ use denote.Ref.{now}
 use borrow.Author.Needs.{needs}
 use Rattle.names.proofs.Laws.{words-are}
 use Rattle.names.specs.Names.{nameAt, sameList}
-use Rattle.index.proofs.Laws.{Reached, hash-small, search-first, search-end, search-found, search-next, search-less, search-room, search-place}
+use Rattle.index.proofs.Laws.{Reached, Looked, hash-small, search-first, search-end, search-on}
 use Rattle.index.proofs.listed.Statement.{statement}
 use Rattle.index.proofs.listed.Tie as tie
 
@@ -53,25 +53,24 @@ sub-j c = search needs
 sub-j-2 : tie.Need-sub-j-2 Inv-loop μ-loop
 sub-j-2 c = search needs
 
+-- the name at hand
+look : (c : tie.In-loop Inv-loop μ-loop) →
+    let a = c .before .before .before .before .before .before .before .args in
+    Looked (a .mask) (now (a .s)) (a .first) (a .stride) (a .at) (a .n) (a .base) (now (a .table)) (c .before .loop .last)
+look c =
+    let p = c .before .before .before .before .before .before .before in
+    search-on _ _ _ _ _ _ _ _ (p .pre .3) (c .before .loop .last) (c .loop-test .taken) (c .before .loop .inv)
+
 mul-has-words : tie.Need-mul-has-words Inv-loop μ-loop
-mul-has-words c =
-    let l = c .before in
-    let p = l .before .before .before .before .before .before in
-    omega (arith, search-place _ _ _ _ _ _ _ _ (p .pre .3) (l .loop .last) (c .loop-test .taken) (l .loop .inv))
+mul-has-words c = omega (arith, look c .place)
 
 add-has-words : tie.Need-add-has-words Inv-loop μ-loop
-add-has-words c =
-    let l = c .before in
-    let p = l .before .before .before .before .before .before in
-    omega (arith, search-place _ _ _ _ _ _ _ _ (p .pre .3) (l .loop .last) (c .loop-test .taken) (l .loop .inv))
+add-has-words c = omega (arith, look c .place)
 
 has-words-requires : tie.Need-has-words-requires Inv-loop μ-loop
-has-words-requires c κs =
-    let l = c .before in
-    let p = l .before .before .before .before .before .before in
-    omega (arith, search-place _ _ _ _ _ _ _ _ (p .pre .3) (l .loop .last) (c .loop-test .taken) (l .loop .inv))
+has-words-requires c κs = omega (arith, look c .place)
 
--- what the words say of the name at hand
+-- what its words say
 same-is : (c : tie.After-has-words Inv-loop μ-loop) →
     let l = c .before .before in
     let a = l .before .before .before .before .before .before .args in
@@ -79,52 +78,32 @@ same-is : (c : tie.After-has-words Inv-loop μ-loop) →
 same-is c =
     let l = c .before .before in
     let k = l .before .before .before .before .before in
-    let p = k .before in
     rw (l .before .before .before .be64-at .ensures, l .before .before .be64-at2 .ensures) at (c .has-words .ensures)
     ∙ words-are _ _ (λ i. omega (arith, k .shared-slice-known .given i)) (λ i. omega (arith, k .shared-slice-known .given i)) _ _
-    (omega (arith, search-place _ _ _ _ _ _ _ _ (p .pre .3) (l .loop .last) (c .before .loop-test .taken) (l .loop .inv))) (p .pre .1)
+    (omega (arith, look (c .before) .place)) (k .before .pre .1)
 
 returns : tie.Need-returns Inv-loop μ-loop
-returns c =
-    let l = c .before .before .before in
-    let p = l .before .before .before .before .before .before in
-    sym (search-found _ _ _ _ _ _ _ _ (p .pre .3) (l .loop .last) (c .before .before .loop-test .taken) (l .loop .inv) (sym (same-is (c .before)) ∙ c .if1 .taken))
+returns c = sym (look (c .before .before) .found (sym (same-is (c .before)) ∙ c .if1 .taken))
 
 add-last : tie.Need-add-last Inv-loop μ-loop
-add-last c =
-    let l = c .before .before .before in
-    let p = l .before .before .before .before .before .before in
-    omega (arith, search-room _ _ _ _ _ _ _ _ (p .pre .3) (l .loop .last) (c .before .before .loop-test .taken) (l .loop .inv))
+add-last c = omega (arith, look (c .before .before) .room)
 
 mul-last-2 : tie.Need-mul-last-2 Inv-loop μ-loop
-mul-last-2 c =
-    let l = c .before .before .before in
-    let p = l .before .before .before .before .before .before in
-    omega (arith, search-room _ _ _ _ _ _ _ _ (p .pre .3) (l .loop .last) (c .before .before .loop-test .taken) (l .loop .inv))
+mul-last-2 c = omega (arith, look (c .before .before) .room)
 
 shared-slice-read-last-2 : tie.Need-shared-slice-read-last-2 Inv-loop μ-loop
-shared-slice-read-last-2 c =
-    let l = c .before .before .before .before in
-    let p = l .before .before .before .before .before .before in
-    omega (arith, search-room _ _ _ _ _ _ _ _ (p .pre .3) (l .loop .last) (c .before .before .before .loop-test .taken) (l .loop .inv))
+shared-slice-read-last-2 c = look (c .before .before .before) .room
 
 cast-last-2 : tie.Need-cast-last-2 Inv-loop μ-loop
 cast-last-2 c =
     let l = c .before .before .before .before in
-    let p = l .before .before .before .before .before .before in
-    omega (arith, c .shared-slice-known4 .given (p .args .mask + l .loop .last))
+    omega (arith, c .shared-slice-known4 .given (l .before .before .before .before .before .before .args .mask + l .loop .last))
 
 loop-less : tie.Need-loop-less Inv-loop μ-loop
-loop-less c =
-    let l = c .before .before .before .before in
-    let p = l .before .before .before .before .before .before in
-    search-less _ _ _ _ _ _ _ _ (p .pre .3) (l .loop .last) (c .before .before .before .loop-test .taken) (l .loop .inv)
+loop-less c = look (c .before .before .before) .less
 
 loop-again : tie.Need-loop-again Inv-loop μ-loop
-loop-again c =
-    let l = c .before .before .before .before in
-    let p = l .before .before .before .before .before .before in
-    search-next _ _ _ _ _ _ _ _ (p .pre .3) (l .loop .last) (c .before .before .before .loop-test .taken) (l .loop .inv) (sym (same-is (c .before .before)) ∙ c .before .if1 .left)
+loop-again c = look (c .before .before .before) .next (sym (same-is (c .before .before)) ∙ c .before .if1 .left)
 
 returns-2 : tie.Need-returns-2 Inv-loop μ-loop
 returns-2 c =

@@ -1,22 +1,34 @@
 -- `repeated` meets its contract: the names at the places are the content's. Assumes nothing.
 use Prim.Native.Nat.{_-_, _+_, _*_}
-use mathlib.Core.Path.{_≡_, sym}
+use mathlib.Core.Path.{_≡_, sym, _∙_}
 use native.Mathlib.Omega.{arith}
 use borrow.Author.Needs.{needs}
 use denote.Ref.{now}
+use lib.ListN.{length}
 use Rattle.layout.specs.Layout.{firstOf}
+use Rattle.layout.specs.Listed.{tableSize}
 use Rattle.layout.proofs.Names.{name-room, repeated-never, repeated-at}
+use Rattle.layout.proofs.Listed.{count-named, listed-next}
 use Rattle.layout.proofs.repeated.Statement.{statement}
 use Rattle.layout.proofs.repeated.Tie as tie
 
 -- the record stands behind the others of its kind
-behind : (c : tie.After-size-of) → c .before .before .before .before .args .at ≡ firstOf (c .before .before .before .before .args .l) (c .before .before .before .before .args .kind) + c .size-of .result * c .before .count-of .result
-behind c = rw (c .size-of .ensures .0, c .before .count-of .ensures) (c .before .before .before .before .pre .2)
+behind : (c : tie.After-size-of) →
+    let a = c .before .before .before .before .before .args in
+    a .at ≡ firstOf (a .l) (a .kind) + c .size-of .result * c .before .count-of .result
+behind c = rw (c .size-of .ensures .0, c .before .count-of .ensures) (c .before .before .before .before .before .pre .2)
+
+begins : (c : tie.After-size-of) →
+    let a = c .before .before .before .before .before .args in
+    a .at - c .size-of .result * c .before .count-of .result + 1 ≡ firstOf (a .l) (a .kind) + 1
+begins c = omega (arith, behind c)
 
 returns : tie.Need-returns
 returns c =
-    let p = c .before .before .args in
-    rw (c .if1 .taken) (sym (repeated-never (now (p .s)) (p .l) (p .at + 1)))
+    let p = c .before .before .before in
+    let a = p .args in
+    let t = p .pre .5 in
+    rw (c .if1 .taken) (sym (repeated-never (now (a .s)) (a .l) (a .at + 1)), record { full = t .full; holds = λ h. absurd (omega arith) })
 
 count-of-requires : tie.Need-count-of-requires
 count-of-requires c κs = search needs
@@ -33,21 +45,41 @@ sub-first c = omega (arith, behind c)
 add-first : tie.Need-add-first
 add-first c = search needs
 
-add-seen : tie.Need-add-seen
-add-seen c = search needs
+named-of-requires : tie.Need-named-of-requires
+named-of-requires c κs = search needs
 
-seen-requires : tie.Need-seen-requires
-seen-requires c κs =
-    let p = c .before .before .before .before in
-    omega (arith, behind c, c .size-of .ensures .0, name-room (p .args .kind) (p .pre .0) (omega arith))
+sub-below : tie.Need-sub-below
+sub-below c =
+    let p = c .before .before .before .before .before .before in
+    omega (arith, c .named-of .ensures, c .before .before .count-of .ensures, count-named (p .args .l) (p .args .kind) (omega arith))
+
+add-seen-before : tie.Need-add-seen-before
+add-seen-before c = search needs
+
+seen-before-requires : tie.Need-seen-before-requires
+seen-before-requires c κs =
+    let b = c .before in
+    let p = b .before .before .before .before .before .before in
+    let a = p .args in
+    let n = b .before .before .count-of .ensures in
+    let x = b .before .size-of .ensures .0 in
+    let m = count-named (a .l) (a .kind) (omega arith) in
+    let r = name-room (a .kind) (p .pre .0) (omega arith) in
+    let t = p .pre .5 in
+    let e = t .full in
+    (omega (arith, behind (b .before)), omega (arith, x), omega (arith, b .named-of .ensures), omega (arith, b .named-of .ensures, n), rw (begins (b .before), x, n, b .named-of .ensures .0) (t .holds (omega arith)))
+
+same-length : tie.Need-same-length
+same-length c = search needs
 
 returns-2 : tie.Need-returns-2
 returns-2 c =
-    let b = c .before in
-    let p = b .before .before .before .before in
+    let b = c .before .before .before .before in
+    let p = b .before .before .before .before .before .before in
     let a = p .args in
-    let f : a .at - b .size-of .result * b .before .count-of .result + 1 ≡ firstOf (a .l) (a .kind) + 1 = omega (arith, behind b) in
-    rw (← repeated-at (now (a .s)) (a .l) (a .kind) (a .at + 1) (p .pre .0) (omega arith)) (rw (f, b .size-of .ensures .0, b .before .count-of .ensures) at (c .seen .ensures))
+    let f : length (now (a .table)) ≡ tableSize = p .pre .5 .full in
+    let e = rw (begins (b .before), b .before .size-of .ensures .0, b .before .before .count-of .ensures, b .named-of .ensures .0) at (c .before .before .seen-before .ensures) in
+    (e .0 ∙ repeated-at (now (a .s)) (a .l) (a .kind) (a .at + 1) (p .pre .0) (omega arith), listed-next (now (a .s)) (a .l) (a .kind) _ (p .pre .0) (omega arith) (search (needs, f)) (e .1))
 
 pub repeated-spec : {M : Type 1} → statement M
 repeated-spec =
@@ -59,6 +91,9 @@ repeated-spec =
     mul-first
     sub-first
     add-first
-    add-seen
-    seen-requires
+    named-of-requires
+    sub-below
+    add-seen-before
+    seen-before-requires
+    same-length
     returns-2)

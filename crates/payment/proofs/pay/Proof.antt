@@ -8,8 +8,9 @@ use mir.Val.{SFits}
 use borrow.Author.Needs.{needs}
 use Rattle.integers.proofs.Machine.{Op, rd}
 use Rattle.figures.specs.Payment.{inWatts, price, amountOf}
+use Rattle.figures.proofs.Payments.{amount-of-within}
 use Rattle.payment.specs.Payment.{paid, paymentOf}
-use Rattle.payment.proofs.Laws.{watts, gap, amount-most}
+use Rattle.payment.proofs.Laws.{watts, gap}
 use Rattle.payment.proofs.pay.Statement.{statement}
 use Rattle.payment.proofs.pay.Tie as tie
 
@@ -32,8 +33,8 @@ amount-is c = rw (gap-of (c .before) .num .is) at (c .amount-of .ensures)
 amount-fits : (c : tie.After-amount-of) → SFits w64 (c .amount-of .result)
 amount-fits c = search needs
 
-amount-small : (c : tie.After-amount-of) → natAbs (rd (c .amount-of .result)) ≤ 7200000000000000000
-amount-small c = let s = c .before in rw (toZ-ofZ (amount-fits c), amount-is c) (amount-most _ (s .pre .head-fits) _ (gap-of s .num .abs))
+amount-small : (c : tie.After-amount-of) → natAbs (rd (c .amount-of .result)) ≤ 2000000000000
+amount-small c = let s = c .before in rw (toZ-ofZ (amount-fits c), amount-is c) (amount-of-within (s .pre .head-fits) _ (gap-of s .num .abs))
 
 price-of-requires : tie.Need-price-of-requires
 price-of-requires c κs = search needs

@@ -8,7 +8,8 @@ use lib.ListN.{length}
 use mir.Syntax.{w64}
 use mir.ValLaws.{toZ-ofZ}
 use Rattle.writers.specs.Text.{ascii, natural}
-use Rattle.writers.proofs.Signs.{negative, not-negative, magnitude-room, decimal-negative, decimal-natural}
+use Rattle.integers.proofs.Machine.{negative, not-negative}
+use Rattle.writers.proofs.Signs.{magnitude-room, decimal-negative, decimal-natural}
 use Rattle.writers.proofs.Writing.{next}
 use Rattle.writers.proofs.put_decimal.Statement.{statement}
 use Rattle.writers.proofs.put_decimal.Tie as tie
