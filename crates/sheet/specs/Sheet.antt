@@ -14,7 +14,7 @@ use Rattle.layout.specs.Layout.{layoutOf}
 use Rattle.sheet.specs.declared.Outcome.{Outcome}
 use Rattle.sheet.specs.declared.Outcome.the-variants.{Accepted, Refused}
 
--- Below, c is the content of the records before the one in question, and `last` is the kind of the last of them, or 0.
+-- Below, c is the content of the records before the one in question, l how many of each kind they are, and `last` the kind of the last of them, or 0.
 
 -- row 1: sheet empty, or first byte not 1
 unfoldable pub firstRow : List ℕ → ℕ
@@ -37,11 +37,19 @@ outOfOrder l last kind = ltb kind last || (eqb kind 1 && leb 1 (l .heads))
 unfoldable pub oneTooMany : Layout → ℕ → Bool
 oneTooMany l kind = byKind kind false (leb 32 (l .zones)) (leb 256 (l .units)) (leb 32 (l .points)) (leb 8 (l .pars)) false false
 
+-- rows 2 to 5, then those of the body
+unfoldable pub frontRow : Layout → ℕ → ℕ → ℕ → ℕ → ℕ
+frontRow l last kind left below =
+    row 2 (unknownKind kind)
+    (row 3 (cutShort kind left)
+    (row 4 (outOfOrder l last kind)
+    (row 5 (oneTooMany l kind) below)))
+
 -- what is due, by what is there
 abbrev pub dueOf : Layout → List Due
 dueOf l = dueList (l .zones) (l .units) (l .points) (l .pars)
 
--- rows 6 to 11 of the body b, by the kind
+-- rows 6 to 11 of the body b, by the kind; `repeated` is row 7
 unfoldable pub bodyRow : Layout → ℕ → Bool → List ℕ → ℕ
 bodyRow l kind repeated b =
     byKind kind
@@ -52,14 +60,6 @@ bodyRow l kind repeated b =
     (parRow repeated (parOf b))
     (factorRow (dueOf l) (l .factors) (factorOf b))
     0
-
--- rows 2 to 5, then those of the body
-unfoldable pub frontRow : Layout → ℕ → ℕ → ℕ → ℕ → ℕ
-frontRow l last kind left below =
-    row 2 (unknownKind kind)
-    (row 3 (cutShort kind left)
-    (row 4 (outOfOrder l last kind)
-    (row 5 (oneTooMany l kind) below)))
 
 -- the first of rows 2 to 11 that fits the record of a kind with the bytes r behind its kind byte, or 0
 unfoldable pub recordRow : Content → ℕ → ℕ → List ℕ → ℕ
