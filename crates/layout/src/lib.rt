@@ -93,12 +93,9 @@ fn named_of(l: Layout) -> usize
 
 // Whether the record at `at`, behind the others of its kind, has the name of one of them. The table, which holds their names, then holds its name too.
 pub fn repeated(s: &[u8], l: Layout, kind: u8, at: usize, table: &mut [u16]) -> bool
-    requires { ⌜ (1 ≤ kind) × (kind ≤ 6) × (at ≡ startOf l kind (count l kind)) × (at + size kind ≤ length (now s)) × Allowed l × Listed (now s) l kind (now table) ⌝ }
+    requires { ⌜ (1 ≤ kind) × (kind ≤ 5) × (at ≡ startOf l kind (count l kind)) × (at + size kind ≤ length (now s)) × Allowed l × Listed (now s) l kind (now table) ⌝ }
     ensures { λ r. ⌜ (r ≡ repeats (contentAt (now (s .entry)) l) kind (bodyIn kind (drop (at + 1) (now (s .entry))))) × Listed (now (s .entry)) (counted l kind) kind (now (table .exit)) ⌝ }
 {
-    if kind == 6 {
-        return false;
-    }
     let n = count_of(l, kind);
     let stride = size_of(kind);
     let first = at - stride * n + 1;
