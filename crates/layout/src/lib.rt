@@ -46,18 +46,28 @@ fn one_if(met: bool) -> usize
     if met { 1 } else { 0 }
 }
 
-// One record of a kind more.
+// One record of a kind more. Most are factors.
 pub fn counted(l: Layout, kind: u8) -> Layout
     requires { ⌜ extent l < 2 ^ 64 ⌝ }
     ensures { λ r. ⌜ r ≡ counted l kind ⌝ }
 {
+    if kind == 6 {
+        return Layout {
+            heads: l.heads,
+            zones: l.zones,
+            units: l.units,
+            points: l.points,
+            pars: l.pars,
+            factors: l.factors + 1,
+        };
+    }
     Layout {
         heads: l.heads + one_if(kind == 1),
         zones: l.zones + one_if(kind == 2),
         units: l.units + one_if(kind == 3),
         points: l.points + one_if(kind == 4),
         pars: l.pars + one_if(kind == 5),
-        factors: l.factors + one_if(kind == 6),
+        factors: l.factors,
     }
 }
 
