@@ -35,9 +35,3 @@ entries P k head zone unit point par factor none h z u p r f n =
 
 pub length-most : (kind : ℕ) → bodyLength kind ≤ 27
 length-most k = entries (λ (n : ℕ). n ≤ 27) k 27 24 21 26 25 6 0 (omega arith) (omega arith) (omega arith) (omega arith) (omega arith) (omega arith) (omega arith)
-
--- the last kind
-pub sixth : (kind : ℕ) → 1 ≤ kind → kind ≤ 6 → (kind ≡ 1 → ⊥) → (kind ≡ 2 → ⊥) → (kind ≡ 3 → ⊥) → (kind ≡ 4 → ⊥) → (kind ≡ 5 → ⊥) → kind ≡ 6
-sixth =
-    kinds (λ (k : ℕ). (k ≡ 1 → ⊥) → (k ≡ 2 → ⊥) → (k ≡ 3 → ⊥) → (k ≡ 4 → ⊥) → (k ≡ 5 → ⊥) → k ≡ 6)
-    (λ a b c d e. absurd (a refl)) (λ a b c d e. absurd (b refl)) (λ a b c d e. absurd (c refl)) (λ a b c d e. absurd (d refl)) (λ a b c d e. absurd (e refl)) (λ a b c d e. refl)

@@ -88,8 +88,3 @@ module _ (s : List ℕ) (l : Layout) where
       moved i =
           let e : firstOf l k + 1 + size k * i ≡ startOf l k i + 1 = omega arith in
           rw e (same-name k (startOf l k i + 1) g h)
-
-  -- factors have no names
-  pub repeated-never : (from : ℕ) → repeats (contentAt s l) 6 (bodyIn 6 (drop from s)) ≡ false
-  unfolding namesOf byKind oneOf
-  repeated-never from = refl

@@ -46,18 +46,28 @@ fn one_if(met: bool) -> usize
     if met { 1 } else { 0 }
 }
 
-// One record of a kind more.
+// One record of a kind more. Most are factors.
 pub fn counted(l: Layout, kind: u8) -> Layout
     requires { ⌜ extent l < 2 ^ 64 ⌝ }
     ensures { λ r. ⌜ r ≡ counted l kind ⌝ }
 {
+    if kind == 6 {
+        return Layout {
+            heads: l.heads,
+            zones: l.zones,
+            units: l.units,
+            points: l.points,
+            pars: l.pars,
+            factors: l.factors + 1,
+        };
+    }
     Layout {
         heads: l.heads + one_if(kind == 1),
         zones: l.zones + one_if(kind == 2),
         units: l.units + one_if(kind == 3),
         points: l.points + one_if(kind == 4),
         pars: l.pars + one_if(kind == 5),
-        factors: l.factors + one_if(kind == 6),
+        factors: l.factors,
     }
 }
 
@@ -93,12 +103,9 @@ fn named_of(l: Layout) -> usize
 
 // Whether the record at `at`, behind the others of its kind, has the name of one of them. The table, which holds their names, then holds its name too.
 pub fn repeated(s: &[u8], l: Layout, kind: u8, at: usize, table: &mut [u16]) -> bool
-    requires { ⌜ (1 ≤ kind) × (kind ≤ 6) × (at ≡ startOf l kind (count l kind)) × (at + size kind ≤ length (now s)) × Allowed l × Listed (now s) l kind (now table) ⌝ }
+    requires { ⌜ (1 ≤ kind) × (kind ≤ 5) × (at ≡ startOf l kind (count l kind)) × (at + size kind ≤ length (now s)) × Allowed l × Listed (now s) l kind (now table) ⌝ }
     ensures { λ r. ⌜ (r ≡ repeats (contentAt (now (s .entry)) l) kind (bodyIn kind (drop (at + 1) (now (s .entry))))) × Listed (now (s .entry)) (counted l kind) kind (now (table .exit)) ⌝ }
 {
-    if kind == 6 {
-        return false;
-    }
     let n = count_of(l, kind);
     let stride = size_of(kind);
     let first = at - stride * n + 1;

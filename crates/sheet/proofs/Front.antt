@@ -4,8 +4,8 @@ use mathlib.Core.Path.{_≡_, refl, sym, ap, _∙_}
 use mathlib.Core.Bool.{Bool, true, false, _&&_, _||_, cond}
 use native.Mathlib.Omega.{arith}
 use lib.Dec.{eqb, leb, ltb}
-use borrow.Author.Tests.{ltb-false, leb-false, eq-eqb}
-use Rattle.records.specs.Bodies.{bodyLength}
+use borrow.Author.Tests.{le-ltb, ltb-false, leb-false, eq-eqb}
+use Rattle.records.specs.Bodies.{byKind, bodyLength}
 use Rattle.records.specs.Rows.{row}
 use Rattle.records.proofs.Passes.{row-pass, neither}
 use Rattle.layout.specs.declared.Layout.{Layout}
@@ -51,6 +51,11 @@ module _ (l : Layout) (last kind left below : ℕ) where
       pick false false true d = refl
       pick false false false true = refl
       pick false false false false = refl
+
+-- of rows 2 to 5 only row 3 fits a factor
+pub front-factor : (l : Layout) (last left below : ℕ) → last ≤ 6 → frontRow l last 6 left below ≡ row 3 (cutShort 6 left) below
+unfolding frontRow oneTooMany byKind
+front-factor l last left below h = rw (le-ltb 6 last h)
 
 -- of the kinds 1 and 6 there is none too many
 pub never : (a b : Bool) → cond a false (cond b false false) ≡ false

@@ -56,6 +56,10 @@ module _ (s : List ℕ) where
   reach-within none = omega arith
   reach-within (more {at} {last} {c} p h e) = omega (arith, fronted s at last c h e .fits)
 
+  pub reach-last : {at last : ℕ} {c : Content} → Passed s at last c → last ≤ 6
+  reach-last none = omega arith
+  reach-last (more {at} {last} {c} p h e) = fronted s at last c h e .high
+
   pub reach-laid : {at last : ℕ} {c : Content} → Passed s at last c → Laid (layoutOf c) last at
   reach-laid none = rw layout-none laid-none
   reach-laid (more {at} {last} {c} p h e) =

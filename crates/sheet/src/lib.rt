@@ -4,12 +4,14 @@ ghost use Prim.Native.Nat.{_+_, _≤_, _<_};
 ghost use lib.ListN.{length, drop};
 ghost use Rattle.fields.specs.Fields.{byteAt};
 ghost use Rattle.due.specs.Due.{Asked};
-ghost use Rattle.records.specs.Bodies.{bodyLength};
+ghost use mathlib.Core.Bool.{false};
+ghost use Rattle.records.specs.Bodies.{bodyLength, bodyIn};
+ghost use Rattle.records.specs.Rows.{row};
 ghost use Rattle.records.specs.Content.{head, zone, unit, point, par, factorFor};
 ghost use Rattle.layout.specs.Layout.{counted, Allowed, contentAt};
 ghost use Rattle.layout.specs.Listed.{Listed};
 ghost use Rattle.sheet.specs.declared.Outcome.the-variants.{Accepted};
-ghost use Rattle.sheet.specs.Sheet.{oneTooMany, frontRow, bodyRow, recordRow, endRow, readSheet, contentOf};
+ghost use Rattle.sheet.specs.Sheet.{cutShort, oneTooMany, frontRow, bodyRow, recordRow, endRow, readSheet, contentOf};
 ghost use Rattle.sheet.specs.Passed.{Passed};
 ghost use Rattle.sheet.specs.Steps.{DueNext, Admits};
 use due::Next;
@@ -47,9 +49,9 @@ fn front_row(l: Layout, last: u8, kind: u8, left: usize) -> u8
     row(2, unknown, row(3, short, row(4, falls, row(5, surplus, 0))))
 }
 
-// Rows 6 to 11 of the body b.
-fn body_row(l: Layout, next: Next, kind: u8, repeated: bool, b: &[u8]) -> u8
-    requires { ⌜ Allowed l × DueNext l next × (1 ≤ kind) × (kind ≤ 6) × (bodyLength kind ≤ length (now b)) ⌝ }
+// Rows 6 to 9 of the body b of a record with a name.
+fn named_row(l: Layout, kind: u8, repeated: bool, b: &[u8]) -> u8
+    requires { ⌜ (1 ≤ kind) × (kind ≤ 5) × (bodyLength kind ≤ length (now b)) ⌝ }
     ensures { λ r. ⌜ r ≡ bodyRow l kind repeated (now (b .entry)) ⌝ }
 {
     match kind {
@@ -57,12 +59,20 @@ fn body_row(l: Layout, next: Next, kind: u8, repeated: bool, b: &[u8]) -> u8
         2 => rows::zone_row(repeated, bodies::zone_of(b)),
         3 => rows::unit_row(l.zones, repeated, bodies::unit_of(b)),
         4 => rows::point_row(l.zones, repeated, bodies::point_of(b)),
-        5 => rows::par_row(repeated, bodies::par_of(b)),
-        _ => {
-            let f = bodies::factor_of(b);
-            rows::factor_row(l.zones, l.units, l.points, l.pars, l.factors, next, f)
-        }
+        _ => rows::par_row(repeated, bodies::par_of(b)),
     }
+}
+
+// Rows 3, 10 and 11 of a factor with the bytes b behind its kind byte.
+fn factor_row(l: Layout, next: Next, b: &[u8]) -> u8
+    requires { ⌜ Allowed l × DueNext l next ⌝ }
+    ensures { λ r. ⌜ r ≡ row 3 (cutShort 6 (length (now (b .entry)))) (bodyRow l 6 false (bodyIn 6 (now (b .entry)))) ⌝ }
+{
+    if b.len() < 6 {
+        return 3;
+    }
+    let f = bodies::factor_of(&b[0..6]);
+    rows::factor_row(l.zones, l.units, l.points, l.pars, l.factors, next, f)
 }
 
 // The first row that fits the record at a place, or 0. The table holds the names of the last kind, then of this record's.
@@ -72,13 +82,16 @@ fn record_row(s: &[u8], l: Layout, next: Next, last: u8, at: usize, table: &mut 
 {
     let kind = s[at];
     let from = at + 1;
+    if kind == 6 {
+        return factor_row(l, next, &s[from..]);
+    }
     let front = front_row(l, last, kind, s.len() - from);
     if front != 0 {
         return front;
     }
     let repeated = layout::repeated(s, l, kind, at, table);
     let to = from + bodies::body_length(kind);
-    body_row(l, next, kind, repeated, &s[from..to])
+    named_row(l, kind, repeated, &s[from..to])
 }
 
 // Which factor is due behind one more record of a kind.

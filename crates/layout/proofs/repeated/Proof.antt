@@ -7,28 +7,21 @@ use denote.Ref.{now}
 use lib.ListN.{length}
 use Rattle.layout.specs.Layout.{firstOf}
 use Rattle.layout.specs.Listed.{tableSize}
-use Rattle.layout.proofs.Names.{name-room, repeated-never, repeated-at}
+use Rattle.layout.proofs.Names.{name-room, repeated-at}
 use Rattle.layout.proofs.Listed.{count-named, listed-next}
 use Rattle.layout.proofs.repeated.Statement.{statement}
 use Rattle.layout.proofs.repeated.Tie as tie
 
 -- the record stands behind the others of its kind
 behind : (c : tie.After-size-of) →
-    let a = c .before .before .before .before .before .args in
+    let a = c .before .before .before .before .args in
     a .at ≡ firstOf (a .l) (a .kind) + c .size-of .result * c .before .count-of .result
-behind c = rw (c .size-of .ensures .0, c .before .count-of .ensures) (c .before .before .before .before .before .pre .2)
+behind c = rw (c .size-of .ensures .0, c .before .count-of .ensures) (c .before .before .before .before .pre .2)
 
 begins : (c : tie.After-size-of) →
-    let a = c .before .before .before .before .before .args in
+    let a = c .before .before .before .before .args in
     a .at - c .size-of .result * c .before .count-of .result + 1 ≡ firstOf (a .l) (a .kind) + 1
 begins c = omega (arith, behind c)
-
-returns : tie.Need-returns
-returns c =
-    let p = c .before .before .before in
-    let a = p .args in
-    let t = p .pre .5 in
-    rw (c .if1 .taken) (sym (repeated-never (now (a .s)) (a .l) (a .at + 1)), record { full = t .full; holds = λ h. absurd (omega arith) })
 
 count-of-requires : tie.Need-count-of-requires
 count-of-requires c κs = search needs
@@ -50,7 +43,7 @@ named-of-requires c κs = search needs
 
 sub-below : tie.Need-sub-below
 sub-below c =
-    let p = c .before .before .before .before .before .before in
+    let p = c .before .before .before .before .before in
     omega (arith, c .named-of .ensures, c .before .before .count-of .ensures, count-named (p .args .l) (p .args .kind) (omega arith))
 
 add-seen-before : tie.Need-add-seen-before
@@ -59,7 +52,7 @@ add-seen-before c = search needs
 seen-before-requires : tie.Need-seen-before-requires
 seen-before-requires c κs =
     let b = c .before in
-    let p = b .before .before .before .before .before .before in
+    let p = b .before .before .before .before .before in
     let a = p .args in
     let n = b .before .before .count-of .ensures in
     let x = b .before .size-of .ensures .0 in
@@ -72,10 +65,10 @@ seen-before-requires c κs =
 same-length : tie.Need-same-length
 same-length c = search needs
 
-returns-2 : tie.Need-returns-2
-returns-2 c =
+returns : tie.Need-returns
+returns c =
     let b = c .before .before .before .before in
-    let p = b .before .before .before .before .before .before in
+    let p = b .before .before .before .before .before in
     let a = p .args in
     let f : length (now (a .table)) ≡ tableSize = p .pre .5 .full in
     let e = rw (begins (b .before), b .before .size-of .ensures .0, b .before .before .count-of .ensures, b .named-of .ensures .0) at (c .before .before .seen-before .ensures) in
@@ -85,7 +78,6 @@ pub repeated-spec : {M : Type 1} → statement M
 repeated-spec =
     tie.close
     (tie.spec
-    returns
     count-of-requires
     size-of-requires
     mul-first
@@ -96,4 +88,4 @@ repeated-spec =
     add-seen-before
     seen-before-requires
     same-length
-    returns-2)
+    returns)

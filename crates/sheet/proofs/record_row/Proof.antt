@@ -1,27 +1,34 @@
 -- `record_row` meets its contract: where rows 2 to 5 pass the body is whole and stands behind the others of its kind. Assumes nothing.
-use Prim.Native.Nat.{_+_, _-_}
-use mathlib.Core.Path.{sym, _∙_}
+use Prim.Native.Nat.{ℕ, _+_, _-_}
+use mathlib.Core.Path.{_≡_, sym, _∙_}
+use mathlib.Core.List.{List}
 use native.Mathlib.Omega.{arith}
 use native.Mathlib.Nat.{add-sub-cancel-left}
-use lib.ListN.{length, length-drop, length-take}
+use lib.ListN.{length, take, drop, length-drop, length-take}
+use lib.Seq.{take-length}
 use borrow.Author.Tests.{eq-eqb, ne-eqb}
 use borrow.Author.Needs.{needs}
 use denote.Ref.{now}
 use Rattle.layout.proofs.Contents.{layout-at}
 use Rattle.fields.specs.Fields.{byteAt}
+use Rattle.records.specs.Bodies.{byKind}
 use Rattle.layout.proofs.Laid.{laid-at}
 use Rattle.layout.proofs.Listed.{listed-at}
-use Rattle.sheet.specs.Sheet.{recordRow}
-use Rattle.sheet.proofs.Reach.{at-laid, at-allowed}
-use Rattle.sheet.proofs.Front.{Fronted, front-pass, front-split}
+use Rattle.sheet.specs.Sheet.{recordRow, bodyRow}
+use Rattle.sheet.proofs.Reach.{reach-last, at-laid, at-allowed}
+use Rattle.sheet.proofs.Front.{Fronted, front-pass, front-split, front-factor}
 use Rattle.sheet.proofs.record_row.Statement.{statement}
 use Rattle.sheet.proofs.record_row.Tie as tie
 
 -- rows 2 to 5 have passed
-passes : (c : tie.Else1) →
-    let a = c .before .before .before .before .before .args in
+passes : (c : tie.Else2) →
+    let a = c .before .before .before .before .before .before .args in
     Fronted (a .l) (a .last) (byteAt (now (a .s)) (a .at)) (length (now (a .s)) - (a .at + 1))
-passes c = front-pass _ _ _ _ 0 (sym (c .before .front-row .ensures) ∙ c .if1 .left) .0
+passes c = front-pass _ _ _ _ 0 (sym (c .before .front-row .ensures) ∙ c .if2 .left) .0
+
+-- what is left of the sheet
+tail-is : (s : List ℕ) (from : ℕ) → take (length s - from) (drop from s) ≡ drop from s
+tail-is s from = rw (← length-drop from s, take-length (drop from s))
 
 shared-slice-read-kind : tie.Need-shared-slice-read-kind
 shared-slice-read-kind c = search needs
@@ -29,26 +36,56 @@ shared-slice-read-kind c = search needs
 add-from : tie.Need-add-from
 add-from c = search needs
 
+sub-factor-row : tie.Need-sub-factor-row
+sub-factor-row c = search needs
+
+part-factor-row-start : tie.Need-part-factor-row-start
+part-factor-row-start c = search needs
+
+part-factor-row-end : tie.Need-part-factor-row-end
+part-factor-row-end c = search needs
+
+factor-row-requires : tie.Need-factor-row-requires
+factor-row-requires c κs =
+    let p = c .before .before .before .before .before .pre in
+    (at-allowed _ _ _ _ (p .0), p .2)
+
+returns : tie.Need-returns
+unfolding recordRow bodyRow byKind
+returns c =
+    let k = c .before .before in
+    let p = k .before .before .before .before in
+    let a = p .args in
+    let s = now (a .s) in
+    let e = rw (tail-is s (a .at + 1)) at (c .factor-row .ensures) in
+    let t = p .pre .3 in
+    rw (k .if1 .taken) (
+      rw (layout-at s (a .l), front-factor (a .l) (a .last) (length (drop (a .at + 1) s)) _ (reach-last s (p .pre .0))) e,
+      λ q. record { full = t .full; holds = λ h. absurd (omega arith) },
+    )
+
 sub-front-row : tie.Need-sub-front-row
 sub-front-row c = search needs
 
 front-row-requires : tie.Need-front-row-requires
 front-row-requires c κs = search needs
 
-returns : tie.Need-returns
+returns-2 : tie.Need-returns-2
 unfolding recordRow
-returns c =
-    let a = c .before .before .before .before .before .args in
+returns-2 c =
+    let a = c .before .before .before .before .before .before .args in
     let s = now (a .s) in
-    (rw (layout-at s (a .l), length-drop (a .at + 1) s, front-split, ← c .before .front-row .ensures, ne-eqb _ _ (c .if1 .taken)), λ e. absurd (c .if1 .taken e))
+    (rw (layout-at s (a .l), length-drop (a .at + 1) s, front-split, ← c .before .front-row .ensures, ne-eqb _ _ (c .if2 .taken)), λ e. absurd (c .if2 .taken e))
 
 repeated-requires : tie.Need-repeated-requires
 repeated-requires c κs =
-    let p = c .before .before .before .before .before .before in
+    let k = c .before .before .before in
+    let p = k .before .before .before .before in
     let a = p .args in
     let f = passes (c .before) in
     let v = at-laid _ _ _ _ (p .pre .0) in
-    (f .low, f .high, laid-at (a .l) _ (a .at) _ v (f .low) (f .high) (f .order), omega (arith, f .fits), at-allowed _ _ _ _ (p .pre .0), listed-at _ (a .l) _ _ (a .last) (a .at) v (f .order) (f .high) (p .pre .3))
+    let n = k .if1 .left in
+    (f .low, omega (arith, n, f .high), laid-at (a .l) _ (a .at) _ v (f .low) (f .high) (f .order), omega (arith, f .fits), at-allowed _ _ _ _ (p .pre .0), listed-at _ (a .l) _ _ (a .last) (a .at) v (f .order) (f .high) (p .pre .3))
 
 body-length-requires : tie.Need-body-length-requires
 body-length-requires c κs = search needs
@@ -56,41 +93,35 @@ body-length-requires c κs = search needs
 add-to : tie.Need-add-to
 add-to c = omega (arith, passes (c .before .before .before .before .before) .fits)
 
-sub-body-row : tie.Need-sub-body-row
-sub-body-row c = search needs
+sub-named-row : tie.Need-sub-named-row
+sub-named-row c = search needs
 
-part-body-row-start : tie.Need-part-body-row-start
-part-body-row-start c = search needs
+part-named-row-start : tie.Need-part-named-row-start
+part-named-row-start c = search needs
 
-part-body-row-end : tie.Need-part-body-row-end
-part-body-row-end c = omega (arith, passes (c .before .before .before .before .before) .fits)
+part-named-row-end : tie.Need-part-named-row-end
+part-named-row-end c = omega (arith, passes (c .before .before .before .before .before) .fits)
 
-body-row-requires : tie.Need-body-row-requires
-body-row-requires c κs =
+named-row-requires : tie.Need-named-row-requires
+named-row-requires c κs =
     let e = c .before .before .before .before .before .before in
-    let p = e .before .before .before .before .before in
     let f = passes e in
-    let s = now (p .args .s) in (
-      at-allowed s _ _ _ (p .pre .0),
-      p .pre .2,
-      f .low,
-      f .high,
-      simp (length-take, length-drop) (omega (arith, f .fits, c .before .body-length .ensures)),
-    )
+    let n = e .before .before .if1 .left in
+    (f .low, omega (arith, n, f .high), simp (length-take, length-drop) (omega (arith, f .fits, c .before .body-length .ensures)))
 
 same-length : tie.Need-same-length
 same-length c = search needs
 
-returns-2 : tie.Need-returns-2
+returns-3 : tie.Need-returns-3
 unfolding recordRow
-returns-2 c =
+returns-3 c =
     let b = c .before .before in
     let r = b .before .before .before in
     let g = r .before .before .before in
-    let a = g .before .before .before .before .args in
+    let a = g .before .before .before .before .before .args in
     let s = now (a .s) in
-    let e = simp add-sub-cancel-left at (c .body-row .ensures) in (
-      rw (layout-at s (a .l), length-drop (a .at + 1) s, front-split, ← g .front-row .ensures, eq-eqb _ _ (r .before .before .if1 .left))
+    let e = simp add-sub-cancel-left at (c .named-row .ensures) in (
+      rw (layout-at s (a .l), length-drop (a .at + 1) s, front-split, ← g .front-row .ensures, eq-eqb _ _ (r .before .before .if2 .left))
           (rw (b .body-length .ensures, r .repeated .ensures .0) at e),
       λ q. r .repeated .ensures .1,
     )
@@ -101,15 +132,20 @@ record-row-spec =
     (tie.spec
     shared-slice-read-kind
     add-from
+    sub-factor-row
+    part-factor-row-start
+    part-factor-row-end
+    factor-row-requires
+    returns
     sub-front-row
     front-row-requires
-    returns
+    returns-2
     repeated-requires
     body-length-requires
     add-to
-    sub-body-row
-    part-body-row-start
-    part-body-row-end
-    body-row-requires
+    sub-named-row
+    part-named-row-start
+    part-named-row-end
+    named-row-requires
     same-length
-    returns-2)
+    returns-3)

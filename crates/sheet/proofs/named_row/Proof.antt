@@ -1,60 +1,57 @@
--- `body_row` meets its contract, kind by kind. Assumes nothing.
+-- `named_row` meets its contract, kind by kind. Assumes nothing.
+use Prim.Native.Nat.{ℕ, _≤_}
 use mathlib.Core.Path.{_≡_}
 use borrow.Author.Needs.{needs}
-use Rattle.layout.proofs.ByKind.{sixth}
+use native.Mathlib.Omega.{arith}
 use Rattle.records.specs.Bodies.{byKind}
 use Rattle.sheet.specs.Sheet.{bodyRow}
-use Rattle.sheet.proofs.body_row.Statement.{statement}
-use Rattle.sheet.proofs.body_row.Tie as tie
+use Rattle.sheet.proofs.named_row.Statement.{statement}
+use Rattle.sheet.proofs.named_row.Tie as tie
 
 -- the last arm
-is-factor : (c : tie.At-match-rest) → c .before .before .args .kind ≡ 6
-is-factor c =
+fifth : (kind : ℕ) → 1 ≤ kind → kind ≤ 5 → (kind ≡ 1 → ⊥) → (kind ≡ 2 → ⊥) → (kind ≡ 3 → ⊥) → (kind ≡ 4 → ⊥) → kind ≡ 5
+fifth k low high a b c d = omega arith
+
+is-par : (c : tie.At-match-rest) → c .before .before .args .kind ≡ 5
+is-par c =
     let p = c .before .before .pre in
     let n = c .match .rest in
-    sixth _ (p .2) (p .3) (n .0 .0 .0 .0 .1) (n .0 .0 .0 .1) (n .0 .0 .1) (n .0 .1) (n .1)
+    fifth _ (p .0) (p .1) (n .0 .0 .0 .1) (n .0 .0 .1) (n .0 .1) (n .1)
 
 head-of-requires : tie.Need-head-of-requires
 unfolding byKind
-head-of-requires c κs = rw (c .match .keys1) at (c .before .before .pre .4)
+head-of-requires c κs = rw (c .match .keys1) at (c .before .before .pre .2)
 
 head-row-requires : tie.Need-head-row-requires
 head-row-requires c κs = search needs
 
 zone-of-requires : tie.Need-zone-of-requires
 unfolding byKind
-zone-of-requires c κs = rw (c .match .keys2) at (c .before .before .pre .4)
+zone-of-requires c κs = rw (c .match .keys2) at (c .before .before .pre .2)
 
 zone-row-requires : tie.Need-zone-row-requires
 zone-row-requires c κs = search needs
 
 unit-of-requires : tie.Need-unit-of-requires
 unfolding byKind
-unit-of-requires c κs = rw (c .match .keys3) at (c .before .before .pre .4)
+unit-of-requires c κs = rw (c .match .keys3) at (c .before .before .pre .2)
 
 unit-row-requires : tie.Need-unit-row-requires
 unit-row-requires c κs = search needs
 
 point-of-requires : tie.Need-point-of-requires
 unfolding byKind
-point-of-requires c κs = rw (c .match .keys4) at (c .before .before .pre .4)
+point-of-requires c κs = rw (c .match .keys4) at (c .before .before .pre .2)
 
 point-row-requires : tie.Need-point-row-requires
 point-row-requires c κs = search needs
 
 par-of-requires : tie.Need-par-of-requires
 unfolding byKind
-par-of-requires c κs = rw (c .match .keys5) at (c .before .before .pre .4)
+par-of-requires c κs = rw (is-par c) at (c .before .before .pre .2)
 
 par-row-requires : tie.Need-par-row-requires
 par-row-requires c κs = search needs
-
-factor-of-requires : tie.Need-factor-of-requires
-unfolding byKind
-factor-of-requires c κs = rw (is-factor c) at (c .before .before .pre .4)
-
-factor-row-requires : tie.Need-factor-row-requires
-factor-row-requires c κs = search needs
 
 returns : tie.Need-returns
 unfolding bodyRow byKind
@@ -74,14 +71,10 @@ returns-4 c = rw (c .before .before .match .keys4, ← c .before .point-of .ensu
 
 returns-5 : tie.Need-returns-5
 unfolding bodyRow byKind
-returns-5 c = rw (c .before .before .match .keys5, ← c .before .par-of .ensures) (c .par-row .ensures)
+returns-5 c = rw (is-par (c .before .before), ← c .before .par-of .ensures) (c .par-row .ensures)
 
-returns-6 : tie.Need-returns-6
-unfolding bodyRow byKind
-returns-6 c = rw (is-factor (c .before .before), ← c .before .factor-of .ensures) (c .factor-row .ensures)
-
-pub body-row-spec : {M : Type 1} → statement M
-body-row-spec =
+pub named-row-spec : {M : Type 1} → statement M
+named-row-spec =
     tie.close
     (tie.spec
     head-of-requires
@@ -94,11 +87,8 @@ body-row-spec =
     point-row-requires
     par-of-requires
     par-row-requires
-    factor-of-requires
-    factor-row-requires
     returns
     returns-2
     returns-3
     returns-4
-    returns-5
-    returns-6)
+    returns-5)
