@@ -10,7 +10,7 @@ use Rattle.due.specs.declared.Due.{Due}
 use Rattle.due.specs.Due.{key, run, each, flowgate, perPar, dueList, noDue, Few}
 use Rattle.due.proofs.Tab.{below-or, getD-behind, length-tab, getD-tab}
 
-positive : (q p m : ℕ) → m < p * q → 0 < q
+pub positive : (q p m : ℕ) → m < p * q → 0 < q
 positive zero p m h = absurd (omega arith)
 positive (suc q) p m h = omega arith
 
@@ -48,7 +48,7 @@ module _ (zones units points : ℕ) where
 
   -- the four runs of one target
   module _ (t pars i : ℕ) where
-    in-each : i < every → getD (whole t pars) i noDue ≡ getD (each zones units points t) i noDue
+    pub in-each : i < every → getD (whole t pars) i noDue ≡ getD (each zones units points t) i noDue
     in-each h = List·getD-append (each zones units points t) (run t 4 pars) noDue i (rw (length-each t) h)
 
     pub in-units : i < units → getD (whole t pars) i noDue ≡ key t 1 i

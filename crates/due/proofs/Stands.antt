@@ -4,9 +4,9 @@ use mathlib.Core.Path.{_≡_, refl, sym, _∙_}
 use native.Mathlib.Nat.{mul-le-mul-right, suc-ne-zero}
 use native.Mathlib.Omega.{arith}
 use lib.ListN.{getD, List·getD-append}
-use Rattle.due.specs.Due.{key, run, each, flowgate, perPar, dueList, noDue, howMany, offset, Asked, Stands}
+use Rattle.due.specs.Due.{key, each, flowgate, perPar, dueList, noDue, howMany, offset, Asked, Stands}
 use Rattle.due.proofs.Tab.{below-or, getD-behind}
-use Rattle.due.proofs.Runs.{every, whole, length-each, length-whole, length-per, length-due, in-units, in-zones, in-points, in-pars, due-first}
+use Rattle.due.proofs.Runs.{every, whole, length-whole, length-per, length-due, in-each, in-units, in-zones, in-points, in-pars, due-first}
 
 -- a fact of each subject
 subjects : (P : ℕ → Type 0) → P 1 → P 2 → P 3 → P 4 → (j : ℕ) → 1 ≤ j → j ≤ 4 → P j
@@ -56,6 +56,17 @@ module _ (zones units points pars : ℕ) where
       room : (q t n r : ℕ) → t < n → r < q → t * q + r < n * q
       room q t n r a g = let h : (t + 1) * q ≤ n * q = mul-le-mul-right q (omega arith) in omega arith
 
+  -- a PAR's own part of all that is due
+  pub due-par : (t i : ℕ) → t < pars → i < every zones units points →
+      getD (dueList zones units points pars) (every zones units points + pars + t * every zones units points + i) noDue ≡ getD (each zones units points (suc t)) i noDue
+  unfolding dueList flowgate
+  due-par t i h g =
+      let q = every zones units points in
+      let z : q + pars + t * q + i - (q + pars) ≡ t * q + i = omega arith in
+      let lw = length-whole zones units points 0 pars in
+      getD-behind (whole zones units points 0 pars) (perPar zones units points pars) (q + pars + t * q + i) noDue (rw lw (omega arith))
+      ∙ rw (lw, z) (per-in pars t i h g)
+
   pub stands-flowgate : (j i : ℕ) → Asked zones units points pars 0 j i → Stands zones units points pars 0 j i (at j i)
   stands-flowgate j i v =
       let a = in-any 0 j i (v .low) (v .high) (v .index) in
@@ -63,21 +74,17 @@ module _ (zones units points pars : ℕ) where
 
   stands-suc : (t j i : ℕ) → Asked zones units points pars (suc t) j i →
       Stands zones units points pars (suc t) j i (every zones units points + pars + t * every zones units points + at j i)
-  unfolding dueList flowgate
   stands-suc t j i v =
       let q = every zones units points in
       let n : j ≡ 4 → ⊥ = λ e. suc-ne-zero t (v .par e) in
       let s = short j i (v .low) (v .high) n (v .index) in
       let m : (t + 1) * q ≤ pars * q = mul-le-mul-right q (omega (arith, v .known)) in
-      let z : q + pars + t * q + at j i - (q + pars) ≡ t * q + at j i = omega arith in
-      let lw = length-whole zones units points 0 pars in
       record {
         below = omega (arith, length-due zones units points pars);
         is =
-            getD-behind (whole zones units points 0 pars) (perPar zones units points pars) (q + pars + t * q + at j i) noDue (rw lw (omega arith))
-            ∙ rw (lw, z) (per-in pars t (at j i) (omega (arith, v .known)) s
-            ∙ sym (List·getD-append (each zones units points (suc t)) (run (suc t) 4 pars) noDue (at j i) (rw (length-each zones units points (suc t)) s))
-            ∙ in-any (suc t) j i (v .low) (v .high) (v .index) .1);
+            due-par t (at j i) (omega (arith, v .known)) s
+            ∙ sym (in-each zones units points (suc t) pars (at j i) s)
+            ∙ in-any (suc t) j i (v .low) (v .high) (v .index) .1;
       }
 
   pub stands-par : (t j i : ℕ) → (t ≡ 0 → ⊥) → Asked zones units points pars t j i →

@@ -1,6 +1,6 @@
 // Rows 6 to 11 of one record, by its fields.
 ghost use mathlib.Core.Path.{_≡_};
-ghost use Rattle.due.specs.Due.{dueList, Few};
+ghost use Rattle.due.specs.Due.{dueList, Few, Follows};
 ghost use Rattle.records.specs.Content.{bears};
 ghost use Rattle.records.specs.Rows.{row, outside, beyond, badName, unlisted, noZoneOf, placeUnknown, headRow, zoneRow, unitRow, pointRow, parRow, factorRow};
 use super::Factor;
@@ -118,14 +118,22 @@ fn bears(f: Factor, d: due::Due) -> bool
     (f.target as usize == d.target) & ((f.subject == d.subject) & (f.index as usize == d.index))
 }
 
-// Rows 10 and 11 of the factor behind n others.
-pub fn factor_row(zones: usize, units: usize, points: usize, pars: usize, n: usize, f: Factor) -> u8
-    requires { ⌜ Few zones units points pars ⌝ }
+// Rows 10 and 11 of the factor behind n others, with the one due next.
+pub fn factor_row(
+    zones: usize,
+    units: usize,
+    points: usize,
+    pars: usize,
+    n: usize,
+    next: due::Next,
+    f: Factor,
+) -> u8
+    requires { ⌜ Few zones units points pars × Follows zones units points pars n next ⌝ }
     ensures { λ r. ⌜ r ≡ factorRow (dueList zones units points pars) n f ⌝ }
 {
     if due::due_count(zones, units, points, pars) <= n {
         return 10;
     }
-    let d = due::due_at(zones, units, points, pars, n);
+    let d = due::due_at(zones, units, points, pars, n, next);
     row(10, !bears(f, d), row(11, factor_beyond(f.factor), 0))
 }

@@ -11,6 +11,8 @@ ghost use Rattle.layout.specs.Listed.{Listed};
 ghost use Rattle.sheet.specs.declared.Outcome.the-variants.{Accepted};
 ghost use Rattle.sheet.specs.Sheet.{oneTooMany, frontRow, bodyRow, recordRow, endRow, readSheet, contentOf};
 ghost use Rattle.sheet.specs.Passed.{Passed};
+ghost use Rattle.sheet.specs.Steps.{DueNext, Admits};
+use due::Next;
 use layout::Layout;
 use records::bodies;
 use records::rows;
@@ -46,8 +48,8 @@ fn front_row(l: Layout, last: u8, kind: u8, left: usize) -> u8
 }
 
 // Rows 6 to 11 of the body b.
-fn body_row(l: Layout, kind: u8, repeated: bool, b: &[u8]) -> u8
-    requires { ⌜ Allowed l × (1 ≤ kind) × (kind ≤ 6) × (bodyLength kind ≤ length (now b)) ⌝ }
+fn body_row(l: Layout, next: Next, kind: u8, repeated: bool, b: &[u8]) -> u8
+    requires { ⌜ Allowed l × DueNext l next × (1 ≤ kind) × (kind ≤ 6) × (bodyLength kind ≤ length (now b)) ⌝ }
     ensures { λ r. ⌜ r ≡ bodyRow l kind repeated (now (b .entry)) ⌝ }
 {
     match kind {
@@ -58,14 +60,14 @@ fn body_row(l: Layout, kind: u8, repeated: bool, b: &[u8]) -> u8
         5 => rows::par_row(repeated, bodies::par_of(b)),
         _ => {
             let f = bodies::factor_of(b);
-            rows::factor_row(l.zones, l.units, l.points, l.pars, l.factors, f)
+            rows::factor_row(l.zones, l.units, l.points, l.pars, l.factors, next, f)
         }
     }
 }
 
 // The first row that fits the record at a place, or 0. The table holds the names of the last kind, then of this record's.
-fn record_row(s: &[u8], l: Layout, last: u8, at: usize, table: &mut [u16]) -> u8
-    requires { ⌜ Passed (now s) at last (contentAt (now s) l) × (at < length (now s)) × Listed (now s) l last (now table) ⌝ }
+fn record_row(s: &[u8], l: Layout, next: Next, last: u8, at: usize, table: &mut [u16]) -> u8
+    requires { ⌜ Passed (now s) at last (contentAt (now s) l) × (at < length (now s)) × DueNext l next × Listed (now s) l last (now table) ⌝ }
     ensures { λ r. ⌜ (r ≡ recordRow (contentAt (now (s .entry)) l) last (byteAt (now (s .entry)) at) (drop (at + 1) (now (s .entry)))) × (r ≡ 0 → Listed (now (s .entry)) (counted l (byteAt (now (s .entry)) at)) (byteAt (now (s .entry)) at) (now (table .exit))) ⌝ }
 {
     let kind = s[at];
@@ -76,7 +78,18 @@ fn record_row(s: &[u8], l: Layout, last: u8, at: usize, table: &mut [u16]) -> u8
     }
     let repeated = layout::repeated(s, l, kind, at, table);
     let to = from + bodies::body_length(kind);
-    body_row(l, kind, repeated, &s[from..to])
+    body_row(l, next, kind, repeated, &s[from..to])
+}
+
+// Which factor is due behind one more record of a kind.
+fn due_behind(l: Layout, next: Next, kind: u8) -> Next
+    requires { ⌜ Allowed l × DueNext l next × Admits l kind ⌝ }
+    ensures { λ r. ⌜ DueNext (counted l kind) r ⌝ }
+{
+    if kind == 6 {
+        return due::due_next(l.zones, l.units, l.points, l.pars, l.factors, next);
+    }
+    next
 }
 
 // Rows 12 and 13.
@@ -106,15 +119,20 @@ pub fn read(s: &[u8]) -> Outcome
         pars: 0,
         factors: 0,
     };
+    let mut next = Next {
+        target: 0,
+        offset: 0,
+    };
     let mut table = [0u16; 842];
     let mut last = 0;
     let mut at = 0;
     while at < s.len() {
-        let number = record_row(s, l, last, at, &mut table);
+        let number = record_row(s, l, next, last, at, &mut table);
         if number != 0 {
             return Outcome::Refused(number, at);
         }
         last = s[at];
+        next = due_behind(l, next, last);
         l = layout::counted(l, last);
         at = at + 1 + bodies::body_length(last);
     }

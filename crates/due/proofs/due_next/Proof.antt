@@ -1,28 +1,51 @@
--- `due_next` meets its contract. Assumes nothing.
+-- `due_next` meets its contract: the target's next, or the first of the target behind it. Assumes nothing.
 use native.Mathlib.Omega.{arith}
 use borrow.Author.Needs.{needs}
-use Rattle.due.proofs.Next.{step-in, step-out}
+use Rattle.due.proofs.Runs.{length-due, per-most}
+use Rattle.due.proofs.Follows.{known, follows-on, follows-turn}
 use Rattle.due.proofs.due_next.Statement.{statement}
 use Rattle.due.proofs.due_next.Tie as tie
 
-many-requires : tie.Need-many-requires
-many-requires c κs = search needs
+add-offset : tie.Need-add-offset
+add-offset c =
+    let p = c .before in
+    let a = p .args in
+    omega (arith, p .pre .2 .place, length-due (a .zones) (a .units) (a .points) (a .pars), per-most (a .zones) (a .units) (a .points) (a .pars) (p .pre .0))
 
-add-t11 : tie.Need-add-t11
-add-t11 c = search needs
+add-if1 : tie.Need-add-if1
+add-if1 c = search needs
+
+add-if1-2 : tie.Need-add-if1-2
+add-if1-2 c = search needs
+
+pars-on-requires : tie.Need-pars-on-requires
+pars-on-requires c κs = search needs
+
+add-if1-3 : tie.Need-add-if1-3
+add-if1-3 c =
+    let p = c .before .before in
+    let a = p .args in
+    omega (arith, c .pars-on .ensures)
 
 returns : tie.Need-returns
 returns c =
-    let a = c .before .before .args in
-    λ n h e. step-in (a .zones) (a .units) (a .points) (a .pars) (a .d) n h e (omega (arith, c .before .many .ensures))
+    let p = c .before .before .before in
+    let a = p .args in
+    follows-on (a .zones) (a .units) (a .points) (a .pars) (a .n) (a .next) (p .pre .1) (p .pre .2) (omega (arith, c .before .pars-on .ensures))
 
-next-run-requires : tie.Need-next-run-requires
-next-run-requires c κs = search needs
+add-t8 : tie.Need-add-t8
+add-t8 c =
+    let p = c .before .before .before .before in
+    let a = p .args in
+    omega (arith, known (a .zones) (a .units) (a .points) (a .pars) (a .n) (a .next) (p .pre .1) (p .pre .2))
 
 returns-2 : tie.Need-returns-2
 returns-2 c =
-    let a = c .before .before .before .args in
-    λ n h e. step-out (a .zones) (a .units) (a .points) (a .pars) (a .d) n h e (omega (arith, c .before .before .many .ensures)) _ (c .next-run .ensures)
+    let p = c .before .before .before .before in
+    let a = p .args in
+    follows-turn (a .zones) (a .units) (a .points) (a .pars) (a .n) (a .next) (p .pre .1) (p .pre .2) (omega (arith, c .before .before .pars-on .ensures))
 
 pub due-next-spec : {M : Type 1} → statement M
-due-next-spec = tie.close (tie.spec many-requires add-t11 returns next-run-requires returns-2)
+due-next-spec =
+    tie.close
+    (tie.spec add-offset add-if1 add-if1-2 pars-on-requires add-if1-3 returns add-t8 returns-2)

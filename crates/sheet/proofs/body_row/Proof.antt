@@ -12,46 +12,46 @@ is-factor : (c : tie.At-match-rest) → c .before .before .args .kind ≡ 6
 is-factor c =
     let p = c .before .before .pre in
     let n = c .match .rest in
-    sixth _ (p .1) (p .2) (n .0 .0 .0 .0 .1) (n .0 .0 .0 .1) (n .0 .0 .1) (n .0 .1) (n .1)
+    sixth _ (p .2) (p .3) (n .0 .0 .0 .0 .1) (n .0 .0 .0 .1) (n .0 .0 .1) (n .0 .1) (n .1)
 
 head-of-requires : tie.Need-head-of-requires
 unfolding byKind
-head-of-requires c κs = rw (c .match .keys1) at (c .before .before .pre .3)
+head-of-requires c κs = rw (c .match .keys1) at (c .before .before .pre .4)
 
 head-row-requires : tie.Need-head-row-requires
 head-row-requires c κs = search needs
 
 zone-of-requires : tie.Need-zone-of-requires
 unfolding byKind
-zone-of-requires c κs = rw (c .match .keys2) at (c .before .before .pre .3)
+zone-of-requires c κs = rw (c .match .keys2) at (c .before .before .pre .4)
 
 zone-row-requires : tie.Need-zone-row-requires
 zone-row-requires c κs = search needs
 
 unit-of-requires : tie.Need-unit-of-requires
 unfolding byKind
-unit-of-requires c κs = rw (c .match .keys3) at (c .before .before .pre .3)
+unit-of-requires c κs = rw (c .match .keys3) at (c .before .before .pre .4)
 
 unit-row-requires : tie.Need-unit-row-requires
 unit-row-requires c κs = search needs
 
 point-of-requires : tie.Need-point-of-requires
 unfolding byKind
-point-of-requires c κs = rw (c .match .keys4) at (c .before .before .pre .3)
+point-of-requires c κs = rw (c .match .keys4) at (c .before .before .pre .4)
 
 point-row-requires : tie.Need-point-row-requires
 point-row-requires c κs = search needs
 
 par-of-requires : tie.Need-par-of-requires
 unfolding byKind
-par-of-requires c κs = rw (c .match .keys5) at (c .before .before .pre .3)
+par-of-requires c κs = rw (c .match .keys5) at (c .before .before .pre .4)
 
 par-row-requires : tie.Need-par-row-requires
 par-row-requires c κs = search needs
 
 factor-of-requires : tie.Need-factor-of-requires
 unfolding byKind
-factor-of-requires c κs = rw (is-factor c) at (c .before .before .pre .3)
+factor-of-requires c κs = rw (is-factor c) at (c .before .before .pre .4)
 
 factor-row-requires : tie.Need-factor-row-requires
 factor-row-requires c κs = search needs

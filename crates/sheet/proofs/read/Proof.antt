@@ -6,22 +6,24 @@ use lib.ListN.{length, drop}
 use borrow.Author.Tests.{eq-eqb, ne-eqb}
 use borrow.Author.Needs.{needs}
 use denote.Ref.{now}
+use Rattle.due.proofs.Follows.{follows-first}
 use Rattle.layout.proofs.Contents.{none-at, layout-at}
 use Rattle.layout.proofs.Listed.{listed-none}
 use Rattle.layout.specs.Layout.{contentAt}
 use Rattle.layout.specs.Listed.{Listed}
 use Rattle.sheet.specs.Passed.{Passed, none, more}
+use Rattle.sheet.specs.Steps.{DueNext}
 use Rattle.sheet.specs.Sheet.{recordsFrom, reading, readSheet}
 use Rattle.sheet.proofs.Walk.{rowHere, first-empty, first-other, first-head, read-first, read-on, from-refused, from-next, from-end}
-use Rattle.sheet.proofs.Reach.{at-laid, at-allowed, at-fronted, at-next}
+use Rattle.sheet.proofs.Reach.{at-laid, at-allowed, at-admits, at-fronted, at-next}
 use Rattle.sheet.proofs.read.Statement.{statement}
 use Rattle.sheet.proofs.read.Tie as tie
 
 abbrev Inv-loop : tie.InvT-loop
-Inv-loop s l₀ table₀ last₀ at₀ l table last at = Passed s at last (contentAt s l) × (recordsFrom at 0 last (contentAt s l) (drop at s) ≡ reading s) × Listed s l last table
+Inv-loop s l₀ next₀ table₀ last₀ at₀ l next table last at = Passed s at last (contentAt s l) × (recordsFrom at 0 last (contentAt s l) (drop at s) ≡ reading s) × DueNext l next × Listed s l last table
 
 abbrev μ-loop : tie.MeasureT-loop
-μ-loop s l₀ table₀ last₀ at₀ l table last at = length s - at
+μ-loop s l₀ next₀ table₀ last₀ at₀ l next table last at = length s - at
 
 returns : tie.Need-returns Inv-loop μ-loop
 returns c =
@@ -39,7 +41,7 @@ returns-2 c =
 loop-holds : tie.Need-loop-holds Inv-loop μ-loop
 loop-holds c =
     let s = now (c .before .before .before .before .args .s) in
-    rw (none-at s) (none, read-on s (first-head s (c .before .before .if1 .left) (c .if2 .left)), listed-none s)
+    rw (none-at s) (none, read-on s (first-head s (c .before .before .if1 .left) (c .if2 .left)), follows-first 0 0 0 0, listed-none s)
 
 slice-aggregate-record-row : tie.Need-slice-aggregate-record-row Inv-loop μ-loop
 slice-aggregate-record-row c = search needs
@@ -47,7 +49,7 @@ slice-aggregate-record-row c = search needs
 record-row-requires : tie.Need-record-row-requires Inv-loop μ-loop
 record-row-requires c κs =
     let i = c .before .before .loop .inv in
-    (i .0, c .before .loop-test .taken, i .2)
+    (i .0, c .before .loop-test .taken, i .2, i .3)
 
 returns-3 : tie.Need-returns-3 Inv-loop μ-loop
 unfolding readSheet
@@ -68,9 +70,16 @@ passes : (c : tie.Else3 Inv-loop μ-loop) →
     rowHere s (l .loop .at) (l .loop .last) (contentAt s (l .loop .l)) ≡ 0
 passes c = sym (c .before .before .record-row .ensures .0) ∙ c .if3 .left
 
+due-behind-requires : tie.Need-due-behind-requires Inv-loop μ-loop
+due-behind-requires c κs =
+    let e = c .before in
+    let i = e .before .before .before .before in
+    let l = i .before .loop in
+    (at-allowed _ _ _ _ (l .inv .0), l .inv .2, at-admits _ (l .at) (l .last) (l .l) (l .inv .0) (i .loop-test .taken) (passes e))
+
 counted-requires : tie.Need-counted-requires Inv-loop μ-loop
 counted-requires c κs =
-    let l = c .before .before .before .before .before .before .loop in
+    let l = c .before .before .before .before .before .before .before .loop in
     omega (arith, at-laid _ _ _ _ (l .inv .0) .here)
 
 add-at : tie.Need-add-at Inv-loop μ-loop
@@ -81,7 +90,7 @@ body-length-requires c κs = search needs
 
 add-at-2 : tie.Need-add-at-2 Inv-loop μ-loop
 add-at-2 c =
-    let e = c .before .before .before in
+    let e = c .before .before .before .before in
     let i = e .before .before .before .before in
     let l = i .before .loop in
     let f = at-fronted _ (l .at) (l .last) (l .l) (l .inv .0) (i .loop-test .taken) (passes e) in
@@ -92,7 +101,7 @@ loop-less c = omega arith
 
 loop-again : tie.Need-loop-again Inv-loop μ-loop
 loop-again c =
-    let e = c .before .before .before in
+    let e = c .before .before .before .before in
     let r = e .before .before in
     let i = r .before .before in
     let l = i .before .loop in
@@ -100,7 +109,7 @@ loop-again c =
     let h = i .loop-test .taken in
     let q = passes e in
     rw (c .before .counted .ensures, c .body-length .ensures)
-    (rw (at-next s (l .at) (l .last) (l .l) (l .inv .0) h q) at (more (l .inv .0) h q), rw (at-next s (l .at) (l .last) (l .l) (l .inv .0) h q) at (from-next s (l .at) (l .last) (contentAt s (l .l)) h q ∙ l .inv .1), r .record-row .ensures .1 (e .if3 .left))
+    (rw (at-next s (l .at) (l .last) (l .l) (l .inv .0) h q) at (more (l .inv .0) h q), rw (at-next s (l .at) (l .last) (l .l) (l .inv .0) h q) at (from-next s (l .at) (l .last) (contentAt s (l .l)) h q ∙ l .inv .1), c .before .before .due-behind .ensures, r .record-row .ensures .1 (e .if3 .left))
 
 end-row-requires : tie.Need-end-row-requires Inv-loop μ-loop
 end-row-requires c κs = at-allowed _ _ _ _ (c .before .loop .inv .0)
@@ -133,6 +142,7 @@ read-spec =
     record-row-requires
     returns-3
     shared-slice-read-last
+    due-behind-requires
     counted-requires
     add-at
     body-length-requires

@@ -48,7 +48,7 @@ repeated-requires c κs =
     let a = p .args in
     let f = passes (c .before) in
     let v = at-laid _ _ _ _ (p .pre .0) in
-    (f .low, f .high, laid-at (a .l) _ (a .at) _ v (f .low) (f .high) (f .order), omega (arith, f .fits), at-allowed _ _ _ _ (p .pre .0), listed-at _ (a .l) _ _ (a .last) (a .at) v (f .order) (f .high) (p .pre .2))
+    (f .low, f .high, laid-at (a .l) _ (a .at) _ v (f .low) (f .high) (f .order), omega (arith, f .fits), at-allowed _ _ _ _ (p .pre .0), listed-at _ (a .l) _ _ (a .last) (a .at) v (f .order) (f .high) (p .pre .3))
 
 body-length-requires : tie.Need-body-length-requires
 body-length-requires c κs = search needs
@@ -72,6 +72,7 @@ body-row-requires c κs =
     let f = passes e in
     let s = now (p .args .s) in (
       at-allowed s _ _ _ (p .pre .0),
+      p .pre .2,
       f .low,
       f .high,
       simp (length-take, length-drop) (omega (arith, f .fits, c .before .body-length .ensures)),
