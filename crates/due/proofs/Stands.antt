@@ -1,11 +1,10 @@
 -- Where a factor that is due stands in the list. Assumes nothing.
 use Prim.Native.Nat.{ℕ, zero, suc, _+_, _*_, _-_, _≤_, _<_}
 use mathlib.Core.Path.{_≡_, refl, sym, _∙_}
-use mathlib.Core.List.{_++_}
 use native.Mathlib.Nat.{mul-le-mul-right, suc-ne-zero}
 use native.Mathlib.Omega.{arith}
-use lib.ListN.{length, getD, List·getD-append}
-use Rattle.due.specs.Due.{key, run, each, flowgate, perPar, dueList, noDue, howMany, offset, Asked, Stands}
+use lib.ListN.{getD, List·getD-append}
+use Rattle.due.specs.Due.{key, each, flowgate, perPar, dueList, noDue, howMany, offset, Asked, Stands}
 use Rattle.due.proofs.Tab.{below-or, getD-behind}
 use Rattle.due.proofs.Runs.{every, whole, length-whole, length-per, length-due, in-each, in-units, in-zones, in-points, in-pars, due-first}
 

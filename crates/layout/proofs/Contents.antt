@@ -1,6 +1,6 @@
 -- The content at the places: its lists' lengths and records, and one record more. Assumes nothing.
-use Prim.Native.Nat.{ℕ, zero, suc, _+_, _*_, _≤_, _<_}
-use mathlib.Core.Path.{_≡_, refl, sym, ap, _∙_}
+use Prim.Native.Nat.{ℕ, _+_, _≤_}
+use mathlib.Core.Path.{_≡_, refl, sym, _∙_}
 use mathlib.Core.Bool.{Bool, true, false}
 use mathlib.Core.List.{List, [], _∷_, _++_, append-nil}
 use native.Mathlib.Numerals.{add-one}
@@ -11,9 +11,9 @@ use borrow.Author.Tests.{eqb-true, eqb-false}
 use Rattle.due.specs.Due.{tab}
 use Rattle.due.proofs.Tab.{below-or, length-tab}
 use Rattle.records.specs.Bodies.{byKind, bodyIn, headOf, zoneOf, unitOf, pointOf, parOf, factorOf}
-use Rattle.records.specs.Content.{Content, onlyIf, noContent, withRecord}
+use Rattle.records.specs.Content.{onlyIf, noContent, withRecord}
 use Rattle.layout.specs.declared.Layout.{Layout}
-use Rattle.layout.specs.Layout.{count, counted, noRecords, size, firstOf, startOf, bodyAt, contentAt, layoutOf}
+use Rattle.layout.specs.Layout.{count, counted, noRecords, startOf, bodyAt, contentAt, layoutOf}
 use Rattle.layout.proofs.Places.{count-same, count-other, first-agree}
 use Rattle.layout.proofs.Laid.{Laid, laid-at, below-same}
 

@@ -1,10 +1,10 @@
 -- Records that follow one another with no kind below the one before. Assumes nothing.
-use Prim.Native.Nat.{ℕ, zero, suc, _+_, _*_, _≤_, _<_}
-use mathlib.Core.Path.{_≡_, refl, sym, ap, _∙_}
+use Prim.Native.Nat.{ℕ, _+_, _≤_, _<_}
+use mathlib.Core.Path.{_≡_, refl, sym, _∙_}
 use native.Mathlib.Omega.{arith}
 use Rattle.records.specs.Bodies.{byKind, bodyLength}
 use Rattle.layout.specs.declared.Layout.{Layout}
-use Rattle.layout.specs.Layout.{count, counted, noRecords, size, firstOf, startOf, extent}
+use Rattle.layout.specs.Layout.{count, counted, noRecords, firstOf, startOf, extent}
 use Rattle.layout.proofs.ByKind.{kinds}
 use Rattle.layout.proofs.Places.{count-same, count-other, first-agree, first-flat}
 

@@ -1,10 +1,10 @@
 -- The names of a kind's records, at their places and in the content. Assumes nothing.
-use Prim.Native.Nat.{ℕ, zero, suc, _+_, _*_, _≤_, _<_}
+use Prim.Native.Nat.{ℕ, zero, suc, _+_, _*_, _≤_}
 use mathlib.Core.Path.{_≡_, refl, sym, ap, _∙_}
-use mathlib.Core.Bool.{Bool, true, false, _||_, or-false}
-use mathlib.Core.List.{List, [], _∷_, _++_, map}
+use mathlib.Core.Bool.{Bool, true, false, _||_, or-false, or-assoc}
+use mathlib.Core.List.{List, [], _∷_, _++_, map, map-append}
 use native.Mathlib.Omega.{arith}
-use lib.ListN.{take, drop}
+use lib.ListN.{drop}
 use lib.Seq.{take-take}
 use Rattle.names.specs.Names.{nameAt, sameList, ifB, among}
 use Rattle.due.specs.Due.{tab}
@@ -15,14 +15,10 @@ use Rattle.layout.specs.declared.Layout.{Layout}
 use Rattle.layout.specs.Layout.{count, size, firstOf, startOf, bodyAt, contentAt}
 use Rattle.layout.proofs.ByKind.{kinds}
 
-map-snoc : {A B : Type 0} (f : A → B) (l : List A) (a : A) → map f (l ++ (a ∷ [])) ≡ map f l ++ (f a ∷ [])
-map-snoc f [] a = refl
-map-snoc f (b ∷ l) a = rw (map-snoc f l a)
-
 pub map-tab : {A B : Type 0} (f : A → B) (g : ℕ → A) (n : ℕ) → map f (tab g n) ≡ tab (λ i. f (g i)) n
 unfolding tab
 map-tab f g zero = refl
-map-tab f g (suc n) = map-snoc f (tab g n) (g n) ∙ rw (map-tab f g n)
+map-tab f g (suc n) = map-append f (tab g n) (g n ∷ []) ∙ rw (map-tab f g n)
 
 tab-same : {A : Type 0} (f g : ℕ → A) (n : ℕ) → ((i : ℕ) → f i ≡ g i) → tab f n ≡ tab g n
 unfolding tab
@@ -33,14 +29,10 @@ or-end : (a b : Bool) → (a || b) ≡ ifB a true b
 or-end true b = refl
 or-end false b = refl
 
-or-in : (a b c : Bool) → (a || (b || c)) ≡ (a || b || c)
-or-in true b c = refl
-or-in false b c = refl
-
 one-of-snoc : (x : List ℕ) (l : List (List ℕ)) (y : List ℕ) → oneOf x (l ++ (y ∷ [])) ≡ (oneOf x l || sameList y x)
 unfolding oneOf
 one-of-snoc x [] y = or-false (sameList y x)
-one-of-snoc x (z ∷ l) y = rw (one-of-snoc x l y) (or-in (sameList z x) (oneOf x l) (sameList y x))
+one-of-snoc x (z ∷ l) y = rw (one-of-snoc x l y) (sym (or-assoc (sameList z x) (oneOf x l) (sameList y x)))
 
 among-snoc : (s x : List ℕ) (at stride n : ℕ) → among s x at stride (suc n) ≡ (among s x at stride n || sameList (nameAt s (at + stride * n)) x)
 unfolding among
@@ -50,7 +42,7 @@ among-snoc s x at stride zero =
 among-snoc s x at stride (suc n) =
     let z : at + stride + stride * n ≡ at + stride * suc n = omega arith in
     rw (among-snoc s x (at + stride) stride n, z, ← or-end (sameList (nameAt s at) x) (among s x (at + stride) stride n))
-    (sym (or-end (sameList (nameAt s at) x) (among s x (at + stride) stride n || sameList (nameAt s (at + stride * suc n)) x)) ∙ or-in (sameList (nameAt s at) x) (among s x (at + stride) stride n) (sameList (nameAt s (at + stride * suc n)) x))
+    (sym (or-end (sameList (nameAt s at) x) (among s x (at + stride) stride n || sameList (nameAt s (at + stride * suc n)) x)) ∙ sym (or-assoc (sameList (nameAt s at) x) (among s x (at + stride) stride n) (sameList (nameAt s (at + stride * suc n)) x)))
 
 among-is : (s x : List ℕ) (at stride n : ℕ) → among s x at stride n ≡ oneOf x (tab (λ i. nameAt s (at + stride * i)) n)
 unfolding tab among oneOf

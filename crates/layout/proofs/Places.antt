@@ -1,12 +1,12 @@
 -- Laws of the places at which records stand. Assumes nothing.
 use Prim.Native.Nat.{ℕ, zero, suc, _+_, _*_, _≤_, _<_}
-use mathlib.Core.Path.{_≡_, refl, sym, ap, _∙_}
+use mathlib.Core.Path.{_≡_, refl}
 use native.Mathlib.Numerals.{add-one}
 use native.Mathlib.Omega.{arith}
 use lib.Dec.{eqb}
 use borrow.Author.Tests.{ne-eqb}
 use Rattle.due.proofs.Tab.{below-or}
-use Rattle.records.specs.Bodies.{byKind, bodyLength}
+use Rattle.records.specs.Bodies.{byKind}
 use Rattle.layout.specs.declared.Layout.{Layout}
 use Rattle.layout.specs.Layout.{one, count, counted, size, firstOf, startOf, extent}
 use Rattle.layout.proofs.ByKind.{kinds}

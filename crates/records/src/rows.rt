@@ -1,6 +1,5 @@
 // Rows 6 to 11 of one record, by its fields.
 ghost use mathlib.Core.Path.{_≡_};
-ghost use mathlib.Core.Bool.{not};
 ghost use Rattle.due.specs.Due.{dueList, Few, Follows};
 ghost use Rattle.records.specs.Content.{bears};
 ghost use Rattle.records.specs.Rows.{row, outside, beyond, badName, unlisted, noZoneOf, placeUnknown, headRow, zoneRow, unitRow, pointRow, parRow, factorRow};

@@ -1,31 +1,30 @@
 -- What an accepted sheet is: its content stands at the layout's places, and rows 1 to 13 leave of it what they should. Assumes nothing.
-use Prim.Native.Nat.{ℕ, zero, suc, _+_, _-_, _≤_, _<_}
-use mathlib.Core.Path.{_≡_, refl, sym, ap, _∙_}
-use mathlib.Core.Bool.{Bool, true, false, not}
-use mathlib.Core.List.{List, [], _∷_, _++_}
+use Prim.Native.Nat.{ℕ, _+_, _-_, _≤_, _<_}
+use mathlib.Core.Path.{_≡_, refl, sym, _∙_}
+use mathlib.Core.Bool.{false, not}
+use mathlib.Core.List.{List, [], _∷_}
 use mathlib.Core.Logic.{_⊎_, inl, inr, ⊎-elim}
 use native.Mathlib.Omega.{arith}
-use lib.Dec.{eqb, ltb}
+use lib.Dec.{eqb}
 use lib.IntN.{natAbs}
-use lib.ListN.{length, take, drop, getD, length-append}
+use lib.ListN.{length, drop, getD, length-append}
 use lib.Seq.{length-take-le}
 use borrow.Author.Tests.{ltb-false, eqb-true, eqb-false, eq-eqb, not-false}
 use Rattle.fields.specs.Fields.{byteAt}
-use Rattle.due.specs.Due.{dueList, noDue, key, Asked}
+use Rattle.due.specs.Due.{noDue, key, Asked}
 use Rattle.due.proofs.Tab.{below-or, getD-tab}
 use Rattle.due.proofs.Stands.{due-found}
-use Rattle.records.specs.Bodies.{byKind, bodyIn, headOf, zoneOf, unitOf, pointOf, parOf, factorOf}
+use Rattle.records.specs.Bodies.{bodyIn, headOf, zoneOf, unitOf, pointOf, parOf, factorOf}
 use Rattle.records.specs.Content.{Content, onlyIf, withRecord, noHead, noZone, noUnit, noPoint, noPar, noFactor, head, zone, unit, point, par, factorFor}
-use Rattle.records.specs.Valid.{HeadFits, ZoneFits, UnitFits, PointFits, ParFits, Valid}
+use Rattle.records.specs.Valid.{Valid}
 use Rattle.records.proofs.Passes.{row-pass, neither, FactorFits}
 use Rattle.layout.specs.declared.Layout.{Layout}
-use Rattle.layout.specs.Layout.{count, extent, Allowed, bodyAt, contentAt, layoutOf}
-use Rattle.layout.proofs.Laid.{Laid}
+use Rattle.layout.specs.Layout.{extent, Allowed, bodyAt, contentAt, layoutOf}
 use Rattle.sheet.specs.declared.Outcome.the-variants.{Accepted}
 use Rattle.sheet.specs.Sheet.{firstRow, endRow, noZoneOrUnit, stillDue, dueOf, readSheet, contentOf}
 use Rattle.sheet.specs.Passed.{Passed, none, more}
-use Rattle.sheet.proofs.Reach.{reach-within, reach-laid, reach-placed, reach-allowed}
-use Rattle.sheet.proofs.Told.{Kept, kept}
+use Rattle.sheet.proofs.Reach.{reach-laid, reach-placed, reach-allowed}
+use Rattle.sheet.proofs.Told.{kept}
 use Rattle.sheet.proofs.Each.{each-head, each-zone, each-unit, each-point, each-par, each-factor}
 use Rattle.sheet.proofs.Factors.{factor-for}
 

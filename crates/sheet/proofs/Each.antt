@@ -1,6 +1,6 @@
 -- Each record that has passed is fine, by its kind: its fields fit, and its name is well formed and new. Assumes nothing.
-use Prim.Native.Nat.{ℕ, zero, suc, _+_, _≤_, _<_}
-use mathlib.Core.Path.{_≡_, refl, sym, ap, _∙_}
+use Prim.Native.Nat.{ℕ, _+_, _≤_, _<_}
+use mathlib.Core.Path.{_≡_, refl, ap, _∙_}
 use mathlib.Core.Bool.{Bool, true, false}
 use mathlib.Core.List.{List, [], _∷_, _++_, map, append-nil}
 use native.Mathlib.Omega.{arith}
@@ -22,11 +22,10 @@ use Rattle.records.specs.Rows.{oneOf, repeats}
 use Rattle.records.specs.Valid.{HeadFits, ZoneFits, UnitFits, PointFits, ParFits}
 use Rattle.records.proofs.Passes.{Passes, head-pass, zone-pass, unit-pass, point-pass, par-pass, FactorFits, factor-pass}
 use Rattle.layout.specs.declared.Layout.{Layout}
-use Rattle.layout.specs.Layout.{count, counted, layoutOf}
+use Rattle.layout.specs.Layout.{count, layoutOf}
 use Rattle.layout.proofs.Places.{count-other}
 use Rattle.sheet.specs.Sheet.{recordRow, bodyRow, dueOf}
 use Rattle.sheet.specs.Passed.{Passed, none, more}
-use Rattle.sheet.proofs.Front.{Fronted}
 use Rattle.sheet.proofs.Reach.{layout-with, fronted, body-passes, reach-laid}
 
 -- A kind with its list, and what its rows leave of a record behind others: it depends on the counts of the kinds below, which are final

@@ -1,8 +1,7 @@
 -- What rows 2 to 5 leave of a record. Assumes nothing.
-use Prim.Native.Nat.{ℕ, zero, suc, _+_, _≤_, _<_}
-use mathlib.Core.Path.{_≡_, refl, sym, ap, _∙_}
-use mathlib.Core.Bool.{Bool, true, false, _&&_, _||_, cond}
-use native.Mathlib.Omega.{arith}
+use Prim.Native.Nat.{ℕ, _≤_, _<_}
+use mathlib.Core.Path.{_≡_, refl}
+use mathlib.Core.Bool.{Bool, true, false, _&&_, cond}
 use lib.Dec.{eqb, leb, ltb}
 use borrow.Author.Tests.{le-ltb, ltb-false, leb-false, eq-eqb}
 use Rattle.records.specs.Bodies.{byKind, bodyLength}

@@ -1,26 +1,25 @@
 -- A sheet's first 27,776 bytes decide: no accepted sheet is longer than 27,748 bytes, and in a longer one a record is refused that begins at or before that place. Assumes nothing.
-use Prim.Native.Nat.{ℕ, zero, suc, _+_, _*_, _-_, _≤_, _<_}
+use Prim.Native.Nat.{ℕ, zero, suc, _+_, _-_, _≤_, _<_}
 use mathlib.Core.Path.{_≡_, refl, sym, ap, _∙_}
-use mathlib.Core.Bool.{Bool, true, false}
 use mathlib.Core.List.{List, [], _∷_}
 use native.Mathlib.Omega.{arith}
-use lib.Dec.{ltb, eqb·suc-zero}
-use lib.ListN.{length, take, drop, length-take, length-drop}
+use lib.Dec.{eqb·suc-zero}
+use lib.ListN.{length, take, drop, length-drop}
 use lib.Seq.{take-all, take-nil, take-take, getD-take, length-take-le}
 use borrow.Author.Tests.{lt-ltb, le-ltb}
 use Rattle.fields.specs.Fields.{byteAt}
 use Rattle.due.proofs.Tab.{below-or}
 use Rattle.due.proofs.Runs.{length-due, per-most}
 use Rattle.records.specs.Bodies.{bodyLength, bodyIn}
-use Rattle.records.specs.Content.{Content, noContent, withRecord}
+use Rattle.records.specs.Content.{Content, noContent}
 use Rattle.layout.specs.declared.Layout.{Layout}
 use Rattle.layout.specs.Layout.{extent, Allowed, layoutOf}
 use Rattle.layout.proofs.ByKind.{length-most}
 use Rattle.layout.proofs.Places.{extent-is}
 use Rattle.sheet.specs.declared.Outcome.the-variants.{Accepted}
-use Rattle.sheet.specs.Sheet.{Reading, holds, fails, recordRow, frontRow, cutShort, firstRow, recordsFrom, reading, readSheet, contentOf, dueOf}
+use Rattle.sheet.specs.Sheet.{Reading, holds, fails, recordRow, frontRow, firstRow, recordsFrom, reading, readSheet, contentOf, dueOf}
 use Rattle.sheet.specs.Passed.{Passed, none, more, rowAt, Accepts, Refuses}
-use Rattle.sheet.proofs.Reach.{fronted, reach-within, reach-laid, reach-allowed}
+use Rattle.sheet.proofs.Reach.{reach-laid, reach-allowed}
 use Rattle.sheet.proofs.Each.{each-factor}
 use Rattle.sheet.proofs.Walk.{from-next, from-refused}
 use Rattle.sheet.proofs.Told.{reading-told, kept}

@@ -1,14 +1,14 @@
 -- What holds once the records before a place have all passed. Assumes nothing.
-use Prim.Native.Nat.{ℕ, zero, suc, _+_, _*_, _-_, _≤_, _<_}
+use Prim.Native.Nat.{ℕ, _+_, _-_, _≤_, _<_}
 use mathlib.Core.Path.{_≡_, refl, sym, ap, _∙_}
 use mathlib.Core.Bool.{Bool, true, false}
 use mathlib.Core.List.{List, [], _∷_, _++_}
 use native.Mathlib.Omega.{arith}
-use lib.Dec.{eqb, leb}
+use lib.Dec.{eqb}
 use lib.ListN.{length, drop, length-append, length-drop}
 use borrow.Author.Tests.{eqb-true, leb-false}
 use Rattle.fields.specs.Fields.{byteAt}
-use Rattle.records.specs.Bodies.{byKind, bodyLength, bodyIn, headOf, zoneOf, unitOf, pointOf, parOf, factorOf}
+use Rattle.records.specs.Bodies.{byKind, bodyIn, headOf, zoneOf, unitOf, pointOf, parOf, factorOf}
 use Rattle.records.specs.Content.{Content, noContent, onlyIf, withRecord}
 use Rattle.records.specs.Rows.{repeats}
 use Rattle.records.proofs.Passes.{factor-pass}

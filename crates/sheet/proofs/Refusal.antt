@@ -1,6 +1,6 @@
 -- Where a refusal points: the records before that place pass their rows, and the record there, or the sheet's end, meets the refusal's row. Assumes nothing.
-use Prim.Native.Nat.{ℕ, suc, _+_, _-_, _≤_, _<_}
-use mathlib.Core.Path.{_≡_, refl, sym, ap, _∙_}
+use Prim.Native.Nat.{ℕ, _+_, _-_, _≤_, _<_}
+use mathlib.Core.Path.{_≡_, refl, sym}
 use mathlib.Core.Bool.{Bool, true, false}
 use mathlib.Core.List.{List}
 use mathlib.Core.Logic.{_⊎_, inl, inr, ⊎-elim}
@@ -14,9 +14,9 @@ use Rattle.records.specs.Content.{Content}
 use Rattle.records.specs.Rows.{row}
 use Rattle.layout.specs.declared.Layout.{Layout}
 use Rattle.layout.specs.Layout.{layoutOf}
-use Rattle.sheet.specs.declared.Outcome.the-variants.{Accepted, Refused}
+use Rattle.sheet.specs.declared.Outcome.the-variants.{Refused}
 use Rattle.sheet.specs.Sheet.{Reading, holds, fails, unknownKind, frontRow, noZoneOrUnit, stillDue, recordRow, endRow, firstRow, reading, outcome, readSheet}
-use Rattle.sheet.specs.Passed.{Passed, rowAt, Refuses}
+use Rattle.sheet.specs.Passed.{rowAt, Refuses}
 use Rattle.sheet.proofs.Reach.{reach-within}
 use Rattle.sheet.proofs.Told.{first-number, refused-first, reading-told}
 

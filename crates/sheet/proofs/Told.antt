@@ -15,12 +15,10 @@ use Rattle.records.specs.Content.{Content, noContent, withRecord}
 use Rattle.records.specs.Rows.{row}
 use Rattle.layout.specs.declared.Layout.{Layout}
 use Rattle.layout.specs.Layout.{layoutOf}
-use Rattle.sheet.specs.declared.Outcome.{Outcome}
-use Rattle.sheet.specs.declared.Outcome.the-variants.{Accepted, Refused}
-use Rattle.sheet.specs.Sheet.{Reading, holds, fails, unless, firstRow, recordRow, endRow, recordsFrom, reading, outcome, readSheet, contentIn, contentOf}
+use Rattle.sheet.specs.declared.Outcome.the-variants.{Accepted}
+use Rattle.sheet.specs.Sheet.{Reading, holds, fails, unless, firstRow, recordRow, endRow, recordsFrom, reading, outcome, readSheet, contentOf}
 use Rattle.sheet.specs.Passed.{Passed, none, more, rowAt, Accepts, Refuses}
-use Rattle.sheet.proofs.Front.{Fronted}
-use Rattle.sheet.proofs.Reach.{fronted, reach-within}
+use Rattle.sheet.proofs.Reach.{reach-within}
 
 abbrev Told : List ℕ → Reading → Type 0
 Told s (holds c) = Accepts s c

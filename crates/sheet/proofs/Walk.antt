@@ -4,7 +4,6 @@ use mathlib.Core.Path.{_≡_, refl, sym, ap, _∙_}
 use mathlib.Core.List.{List, [], _∷_}
 use native.Mathlib.Numerals.{add-one}
 use native.Mathlib.Omega.{arith}
-use lib.Dec.{eqb}
 use lib.ListN.{length, drop, drop-of-length-le}
 use lib.Seq.{drop-drop, drop-cons}
 use borrow.Author.Tests.{eq-eqb, ne-eqb}
@@ -13,7 +12,7 @@ use Rattle.records.specs.Bodies.{bodyLength, bodyIn}
 use Rattle.records.specs.Content.{Content, noContent, withRecord}
 use Rattle.layout.specs.Layout.{layoutOf}
 use Rattle.sheet.specs.declared.Outcome.the-variants.{Refused}
-use Rattle.sheet.specs.Sheet.{Reading, holds, fails, unless, recordRow, endRow, firstRow, recordsFrom, reading, readSheet}
+use Rattle.sheet.specs.Sheet.{holds, fails, unless, recordRow, endRow, firstRow, recordsFrom, reading, readSheet}
 use Rattle.sheet.proofs.Front.{Fronted, front-pass}
 
 from-skip : (at skip last : ℕ) (c : Content) (r : List ℕ) → skip ≤ length r → recordsFrom at skip last c r ≡ recordsFrom (at + skip) 0 last c (drop skip r)
