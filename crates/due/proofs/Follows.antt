@@ -1,16 +1,22 @@
--- Which factor is due next, from one to the one behind it. Assumes nothing.
-use Prim.Native.Nat.{ℕ, zero, suc, _+_, _*_, _-_, _≤_, _<_}
+-- Where the factor stands that is due behind n others, and how many of its run are due behind it. Assumes nothing.
+use Prim.Native.Nat.{ℕ, zero, suc, _+_, _*_, _-_, _/_, _%_, _≤_, _<_}
 use mathlib.Core.Path.{_≡_, refl, sym, _∙_}
-use native.Mathlib.Nat.{mul-le-mul-right, suc-ne-zero}
+use native.Mathlib.Nat.{mul-le-mul-right, suc-ne-zero, div-add-mod', mod-lt}
 use native.Mathlib.Numerals.{add-one}
 use native.Mathlib.Omega.{arith}
 use lib.ListN.{length, getD}
 use borrow.Author.Tests.{ne-eqb}
 use Rattle.due.specs.declared.Next.{Next}
-use Rattle.due.specs.Due.{dueList, noDue, start, parsOn, own, Follows}
+use Rattle.due.specs.Due.{dueList, key, noDue, start, parsOn, own, Few, Follows, Run}
 use Rattle.due.proofs.Tab.{below-or}
-use Rattle.due.proofs.Runs.{every, whole, positive, length-due, in-each, due-first}
+use Rattle.due.proofs.Runs.{every, whole, positive, length-due, some-each, in-each, in-units, in-zones, in-points, in-pars, due-first}
 use Rattle.due.proofs.Stands.{due-par}
+
+room : (x p k : ℕ) → x < p → k ≤ p - 1 - x → x + k < p
+room x p k g h = omega arith
+
+shift : (a b c i k : ℕ) → a + b + c ≤ i → i + k - a - b - c ≡ i - a - b - c + k
+shift a b c i k h = omega arith
 
 module _ (zones units points pars : ℕ) where
   abbrev q : ℕ
@@ -27,26 +33,18 @@ module _ (zones units points pars : ℕ) where
   own-par : (t : ℕ) → own zones units points pars (suc t) ≡ q
   own-par t = rw (ne-eqb (suc t) 0 (suc-ne-zero t)) (omega arith)
 
-  start-next : (t : ℕ) → start zones units points pars (t + 1) ≡ start zones units points pars t + own zones units points pars t
-  start-next zero = omega (arith, start-flowgate, start-par 0)
-  start-next (suc t) = rw add-one (omega (arith, start-par (suc t), start-par t, own-par t))
-
-  -- a target whose factors are not all there has some
-  in-own : (t i : ℕ) → start zones units points pars t + i < length (dueList zones units points pars) → (0 < i → i < own zones units points pars t) → i < own zones units points pars t
-  in-own zero i h w =
-      below-or 0 i w
-      (λ a. below-or 0 (q + pars) (λ b. omega arith)
-      (λ b. absurd (omega (arith, positive q pars 0 (omega (arith, start-flowgate, length-due zones units points pars))))))
-  in-own (suc t) i h w =
-      below-or 0 i w
-      (λ a. omega (arith, own-par t, positive q pars (t * q + i) (omega (arith, start-par t, length-due zones units points pars))))
-
-  -- and is known
+  -- a target whose factors are not all there is known
   known-at : (t i : ℕ) → start zones units points pars t + i < length (dueList zones units points pars) → t ≤ pars
   known-at zero i h = omega arith
   known-at (suc t) i h =
       below-or t pars (λ a. omega arith)
       (λ b. let m : pars * q ≤ t * q = mul-le-mul-right q b in absurd (omega (arith, start-par t, length-due zones units points pars)))
+
+  below-own : (t i : ℕ) → t ≤ pars → i < own zones units points pars t → start zones units points pars t + i < length (dueList zones units points pars)
+  below-own zero i h g = omega (arith, start-flowgate, length-due zones units points pars)
+  below-own (suc t) i h g =
+      let m : (t + 1) * q ≤ pars * q = mul-le-mul-right q (omega arith) in
+      omega (arith, start-par t, own-par t, length-due zones units points pars)
 
   is-at : (t i : ℕ) → start zones units points pars t + i < length (dueList zones units points pars) → i < own zones units points pars t →
       getD (whole zones units points t (parsOn pars t)) i noDue ≡ getD (dueList zones units points pars) (start zones units points pars t + i) noDue
@@ -56,35 +54,76 @@ module _ (zones units points pars : ℕ) where
       (in-each zones units points (suc t) 0 i (omega (arith, own-par t))
       ∙ sym (due-par zones units points pars t i (omega (arith, known-at (suc t) i h)) (omega (arith, own-par t))))
 
+  module _ (n : ℕ) where
+    pub spot-flowgate : n < q + pars → Follows zones units points pars n (record { target = 0; offset = n })
+    spot-flowgate h = record { place = omega (arith, start-flowgate); within = h }
+
+    pub spot-par : q + pars ≤ n → n < length (dueList zones units points pars) → Follows zones units points pars n (record { target = (n - (q + pars)) / q + 1; offset = (n - (q + pars)) % q })
+    spot-par g h =
+        let m = n - (q + pars) in
+        rw add-one
+        (record { place = omega (arith, start-par (m / q), div-add-mod' m q); within = omega (arith, own-par (m / q), mod-lt m {m = q} (some-each zones units points pars n g h)) })
+
   module _ (n : ℕ) (next : Next) (below : n < length (dueList zones units points pars)) (f : Follows zones units points pars n next) where
     pub known : next .target ≤ pars
     known = known-at (next .target) (next .offset) (omega (arith, f .place))
 
-    pub within-own : next .offset < own zones units points pars (next .target)
-    within-own = in-own (next .target) (next .offset) (omega (arith, f .place)) (f .within)
-
     -- the one at hand
     pub follows-is : getD (whole zones units points (next .target) (parsOn pars (next .target))) (next .offset) noDue ≡ getD (dueList zones units points pars) n noDue
-    follows-is = is-at (next .target) (next .offset) (omega (arith, f .place)) within-own ∙ rw (f .place)
+    follows-is = is-at (next .target) (next .offset) (omega (arith, f .place)) (f .within) ∙ rw (f .place)
 
-    -- the one behind it
-    pub follows-on : next .offset + 1 < own zones units points pars (next .target) → Follows zones units points pars (n + 1) (record { target = next .target; offset = next .offset + 1 })
-    follows-on h = record { place = omega (arith, f .place); within = λ g. h; first = λ e. absurd (omega arith) }
+    -- the ones behind it, of a subject j
+    run-at : (j b r : ℕ) → j ≤ 4 → b + r < 256 → next .offset + r < own zones units points pars (next .target) →
+        ((k : ℕ) → k ≤ r → getD (whole zones units points (next .target) (parsOn pars (next .target))) (next .offset + k) noDue ≡ key (next .target) j (b + k)) →
+        Run zones units points pars n r
+    run-at j b r s m g w =
+        let t = next .target in
+        let e : (k : ℕ) → start zones units points pars t + (next .offset + k) ≡ n + k = λ k. omega (arith, f .place) in
+        let h : (k : ℕ) → k ≤ r → start zones units points pars t + (next .offset + k) < length (dueList zones units points pars) = λ k a. below-own t (next .offset + k) known (omega arith) in
+        let i : (k : ℕ) → k ≤ r → getD (dueList zones units points pars) (n + k) noDue ≡ key t j (b + k) = λ k a. rw (e k) at (sym (is-at t (next .offset + k) (h k a) (omega arith)) ∙ w k a) in
+        let z : n + 0 ≡ n = omega arith in
+        let y : b + 0 ≡ b = omega arith in
+        let d : getD (dueList zones units points pars) n noDue ≡ key t j b = rw (z, y) at (i 0 (omega arith)) in
+        record {
+          below = omega (arith, e r, h r (omega arith));
+          known = rw d known;
+          subject = rw d s;
+          few = rw d (omega arith);
+          is = λ k a. let x : b + 1 + k ≡ b + k + 1 = omega arith in rw (d, x) (i k a);
+        }
 
-    pub follows-turn : own zones units points pars (next .target) ≤ next .offset + 1 → Follows zones units points pars (n + 1) (record { target = next .target + 1; offset = 0 })
-    follows-turn h = record {
-      place = omega (arith, f .place, start-next (next .target), within-own);
-      within = λ g. absurd (omega arith);
-      first = λ e. absurd (omega arith);
-    }
+    module _ (few : Few zones units points pars) where
+      abbrev i : ℕ
+      i = next .offset
 
-  pub follows-first : Follows zones units points pars 0 (record { target = 0; offset = 0 })
-  follows-first = record { place = omega (arith, start-flowgate); within = λ h. absurd (omega arith); first = λ z. refl }
+      abbrev t : ℕ
+      t = next .target
 
--- before any factor it is the same, whatever there is
-pub follows-none : (zones units points pars zones′ units′ points′ pars′ : ℕ) (next : Next) → Follows zones units points pars 0 next → Follows zones′ units′ points′ pars′ 0 next
-follows-none zones units points pars zones′ units′ points′ pars′ next f =
-    let e = f .first refl in
-    let p = rw e at (f .place) in
-    let z : next .offset ≡ 0 = omega (arith, p) in
-    record { place = rw (e, z) (follows-first zones′ units′ points′ pars′ .place); within = λ h. absurd (omega arith); first = λ z. e }
+      abbrev p : ℕ
+      p = parsOn pars t
+
+      pub run-units : i < units → Run zones units points pars n (units - 1 - i)
+      run-units h = run-at 1 i (units - 1 - i) (omega arith) (omega (arith, few .units-most)) (omega arith) (λ k a. in-units zones units points t p (i + k) (omega arith))
+
+      pub run-zones : units ≤ i → i - units < zones → Run zones units points pars n (zones - 1 - (i - units))
+      run-zones g h =
+          run-at 2 (i - units) (zones - 1 - (i - units)) (omega arith) (omega (arith, few .zones-most)) (omega arith)
+          (λ k a.
+          let e : i + k - units ≡ i - units + k = omega arith in
+          rw e at (in-zones zones units points t p (i + k) (omega arith) (omega arith)))
+
+      pub run-points : units ≤ i → zones ≤ i - units → i - units - zones < points → Run zones units points pars n (points - 1 - (i - units - zones))
+      run-points g b h =
+          run-at 3 (i - units - zones) (points - 1 - (i - units - zones)) (omega arith) (omega (arith, few .points-most)) (omega arith)
+          (λ k a.
+          let e : i + k - units - zones ≡ i - units - zones + k = omega arith in
+          rw e at (in-points zones units points t p (i + k) (omega arith) (omega arith) (omega arith)))
+
+      pub run-pars : units ≤ i → zones ≤ i - units → points ≤ i - units - zones → p ≤ pars → Run zones units points pars n (p - 1 - (i - units - zones - points))
+      run-pars g b h m =
+          let v : units + zones + points ≤ i = omega arith in
+          let x : i - units - zones - points < p = omega (arith, f .within) in
+          let z : (k : ℕ) → k ≤ p - 1 - (i - units - zones - points) → i - units - zones - points + k < p = λ k a. room (i - units - zones - points) p k x a in
+          let r : i - units - zones - points + (p - 1 - (i - units - zones - points)) < p = z (p - 1 - (i - units - zones - points)) (omega arith) in
+          run-at 4 (i - units - zones - points) (p - 1 - (i - units - zones - points)) (omega arith) (omega (arith, few .pars-most)) (omega arith)
+          (λ k a. let e = shift units zones points i k v in rw e at (in-pars zones units points t p (i + k) (omega arith) (rw e (z k a))))

@@ -1,8 +1,10 @@
 // Rows 6 to 11 of one record, by its fields.
 ghost use mathlib.Core.Path.{_≡_};
-ghost use Rattle.due.specs.Due.{dueList, Few, Follows};
+ghost use mathlib.Core.Bool.{not};
+ghost use Rattle.names.specs.Names.{nameOk};
+ghost use Rattle.due.specs.Due.{dueList, Few};
 ghost use Rattle.records.specs.Content.{bears};
-ghost use Rattle.records.specs.Rows.{row, outside, beyond, badName, unlisted, noZoneOf, placeUnknown, headRow, zoneRow, unitRow, pointRow, parRow, factorRow};
+ghost use Rattle.records.specs.Rows.{row, outside, beyond, unlisted, noZoneOf, placeUnknown, headRow, zoneRow, unitRow, pointRow, parRow, factorRow};
 use super::Factor;
 use super::Head;
 use super::Par;
@@ -37,7 +39,7 @@ fn power_beyond(z: i32) -> bool
     beyond(200_000, z as i64)
 }
 
-fn factor_beyond(z: i16) -> bool
+pub fn factor_beyond(z: i16) -> bool
     ensures { λ r. ⌜ r ≡ beyond 10000 z ⌝ }
 {
     beyond(10_000, z as i64)
@@ -64,51 +66,57 @@ fn place_unknown(zones: usize, place: Place) -> bool
     }
 }
 
-// Rows 6 and 7, then those below.
-fn name_rows(name: &[u8], repeated: bool, below: u8) -> u8
-    ensures { λ r. ⌜ r ≡ row 6 (badName (now (name .entry))) (row 7 repeated below) ⌝ }
+// Rows 6 and 7, then those below. Here and below, `well` is whether the name is well formed.
+fn name_rows(well: bool, repeated: bool, below: u8) -> u8
+    ensures { λ r. ⌜ r ≡ row 6 (not well) (row 7 repeated below) ⌝ }
 {
-    row(6, !names::name_ok(name), row(7, repeated, below))
+    row(6, !well, row(7, repeated, below))
 }
 
-pub fn head_row(h: Head) -> u8
+pub fn head_row(well: bool, h: Head) -> u8
+    requires { ⌜ well ≡ nameOk (h .name) ⌝ }
     ensures { λ r. ⌜ r ≡ headRow h ⌝ }
 {
     let codes = unlisted(h.monitoring_rto);
     let prices = (400_000 < h.monitoring_price) | (400_000 < h.nonmonitoring_price);
     let numbers = outside(1, h.seconds as usize, 900) | prices;
-    name_rows(&h.name, false, row(8, codes, row(9, numbers, 0)))
+    name_rows(well, false, row(8, codes, row(9, numbers, 0)))
 }
 
-pub fn zone_row(repeated: bool, z: Zone) -> u8
+pub fn zone_row(well: bool, repeated: bool, z: Zone) -> u8
+    requires { ⌜ well ≡ nameOk (z .name) ⌝ }
     ensures { λ r. ⌜ r ≡ zoneRow repeated z ⌝ }
 {
     let numbers = (2_000_000 < z.load) | (2_000_000 < z.losses);
-    name_rows(&z.name, repeated, row(9, numbers, 0))
+    name_rows(well, repeated, row(9, numbers, 0))
 }
 
-pub fn unit_row(zones: usize, repeated: bool, u: Unit) -> u8
+pub fn unit_row(well: bool, zones: usize, repeated: bool, u: Unit) -> u8
+    requires { ⌜ well ≡ nameOk (u .name) ⌝ }
     ensures { λ r. ⌜ r ≡ unitRow zones repeated u ⌝ }
 {
     let codes = no_zone_of(zones, u.zone);
     let numbers = 2_000_000 < u.output;
-    name_rows(&u.name, repeated, row(8, codes, row(9, numbers, 0)))
+    name_rows(well, repeated, row(8, codes, row(9, numbers, 0)))
 }
 
-pub fn point_row(zones: usize, repeated: bool, p: Point) -> u8
+pub fn point_row(well: bool, zones: usize, repeated: bool, p: Point) -> u8
+    requires { ⌜ well ≡ nameOk (p .name) ⌝ }
     ensures { λ r. ⌜ r ≡ pointRow zones repeated p ⌝ }
 {
-    let codes = unlisted(p.sort) | place_unknown(zones, p.place);
+    let place = p.place;
+    let codes = unlisted(p.sort) | place_unknown(zones, place);
     let numbers = (200_000 < p.import) | (200_000 < p.export);
-    name_rows(&p.name, repeated, row(8, codes, row(9, numbers, 0)))
+    name_rows(well, repeated, row(8, codes, row(9, numbers, 0)))
 }
 
-pub fn par_row(repeated: bool, p: Par) -> u8
+pub fn par_row(well: bool, repeated: bool, p: Par) -> u8
+    requires { ⌜ well ≡ nameOk (p .name) ⌝ }
     ensures { λ r. ⌜ r ≡ parRow repeated p ⌝ }
 {
     let codes = unlisted(p.class);
     let numbers = power_beyond(p.actual) | power_beyond(p.target);
-    name_rows(&p.name, repeated, row(8, codes, row(9, numbers, 0)))
+    name_rows(well, repeated, row(8, codes, row(9, numbers, 0)))
 }
 
 // Whether the factor is the one for d.
@@ -118,22 +126,14 @@ fn bears(f: Factor, d: due::Due) -> bool
     (f.target as usize == d.target) & ((f.subject == d.subject) & (f.index as usize == d.index))
 }
 
-// Rows 10 and 11 of the factor behind n others, with the one due next.
-pub fn factor_row(
-    zones: usize,
-    units: usize,
-    points: usize,
-    pars: usize,
-    n: usize,
-    next: due::Next,
-    f: Factor,
-) -> u8
-    requires { ⌜ Few zones units points pars × Follows zones units points pars n next ⌝ }
+// Rows 10 and 11 of the factor behind n others.
+pub fn factor_row(zones: usize, units: usize, points: usize, pars: usize, n: usize, f: Factor) -> u8
+    requires { ⌜ Few zones units points pars ⌝ }
     ensures { λ r. ⌜ r ≡ factorRow (dueList zones units points pars) n f ⌝ }
 {
     if due::due_count(zones, units, points, pars) <= n {
         return 10;
     }
-    let d = due::due_at(zones, units, points, pars, n, next);
+    let d = due::due_at(zones, units, points, pars, n);
     row(10, !bears(f, d), row(11, factor_beyond(f.factor), 0))
 }

@@ -21,7 +21,7 @@ first-bears [] t j x n h p q = absurd (omega arith)
 first-bears (f ∷ fs) t j x zero h p q = rw p
 first-bears (f ∷ fs) t j x (suc n) h p q = rw (q 0 (omega arith)) (first-bears fs t j x n (omega arith) p (λ m g. q (suc m) (omega arith)))
 
-both : (a b : Bool) → (a && b) ≡ true → (a ≡ true) × (b ≡ true)
+pub both : (a b : Bool) → (a && b) ≡ true → (a ≡ true) × (b ≡ true)
 both true b q = (refl, q)
 both false b q = let z : _≡_ {A = ℕ} 0 1 = cc in absurd (omega arith)
 

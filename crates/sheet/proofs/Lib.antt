@@ -8,3 +8,4 @@ pub mod Accepted
 pub mod Long
 pub mod Refusal
 pub mod Named
+pub mod Run

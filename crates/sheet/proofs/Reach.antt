@@ -11,14 +11,12 @@ use Rattle.fields.specs.Fields.{byteAt}
 use Rattle.records.specs.Bodies.{byKind, bodyIn, headOf, zoneOf, unitOf, pointOf, parOf, factorOf}
 use Rattle.records.specs.Content.{Content, noContent, onlyIf, withRecord}
 use Rattle.records.specs.Rows.{repeats}
-use Rattle.records.proofs.Passes.{factor-pass}
 use Rattle.layout.specs.declared.Layout.{Layout}
 use Rattle.layout.specs.Layout.{one, counted, noRecords, Allowed, contentAt, layoutOf}
 use Rattle.layout.proofs.Laid.{Laid, laid-none, laid-next}
 use Rattle.layout.proofs.Contents.{none-at, layout-at, content-next}
 use Rattle.sheet.specs.Sheet.{recordRow, bodyRow, oneTooMany}
 use Rattle.sheet.specs.Passed.{Passed, none, more}
-use Rattle.sheet.specs.Steps.{Admits}
 use Rattle.sheet.proofs.Front.{Fronted, front-pass}
 
 one-more : {A : Type 0} (l : List A) (b : Bool) (a : A) → length (l ++ onlyIf b a) ≡ length l + one b
@@ -119,13 +117,3 @@ module _ (s : List ℕ) where
     at-next h e =
         let f = at-fronted h e in
         sym (content-next s l last at (byteAt s at) at-laid (f .low) (f .high) (f .order))
-
-    pub at-admits : at < length s → recordRow (contentAt s l) last (byteAt s at) (drop (at + 1) s) ≡ 0 → Admits l (byteAt s at)
-    unfolding bodyRow byKind
-    at-admits h e =
-        let f = at-fronted h e in
-        let b = rw (layout-at s l) at (body-passes s at last (contentAt s l) h e) in
-        record {
-          factor = λ k. factor-pass _ _ _ (rw k at b) .some;
-          other = λ k. at-laid .above 6 (omega (arith, f .order, f .high)) (omega arith);
-        }

@@ -13,6 +13,7 @@ use Rattle.records.specs.Content.{Content, noContent, withRecord}
 use Rattle.layout.specs.Layout.{layoutOf}
 use Rattle.sheet.specs.declared.Outcome.the-variants.{Refused}
 use Rattle.sheet.specs.Sheet.{holds, fails, unless, recordRow, endRow, firstRow, recordsFrom, reading, readSheet}
+use Rattle.sheet.specs.Passed.{Passed, none, more}
 use Rattle.sheet.proofs.Front.{Fronted, front-pass}
 
 from-skip : (at skip last : ℕ) (c : Content) (r : List ℕ) → skip ≤ length r → recordsFrom at skip last c r ≡ recordsFrom (at + skip) 0 last c (drop skip r)
@@ -51,6 +52,11 @@ module _ (s : List ℕ) (at last : ℕ) (c : Content) where
   unfolding recordsFrom
   from-end h = rw (drop-of-length-le s {i = at} h)
 
+-- behind records that pass, what is left answers for the whole
+from-passed : (s : List ℕ) {at last : ℕ} {c : Content} → Passed s at last c → recordsFrom at 0 last c (drop at s) ≡ recordsFrom 0 0 0 noContent s
+from-passed s none = refl
+from-passed s (more {at} {last} {c} p h e) = from-next s at last c h e ∙ from-passed s p
+
 -- the first record
 pub first-empty : (s : List ℕ) → length s ≡ 0 → firstRow s ≡ 1
 unfolding firstRow
@@ -62,7 +68,7 @@ unfolding firstRow
 first-other [] e = refl
 first-other (k ∷ r) e = rw (ne-eqb k 1 e)
 
-pub first-head : (s : List ℕ) → (length s ≡ 0 → ⊥) → byteAt s 0 ≡ 1 → firstRow s ≡ 0
+first-head : (s : List ℕ) → (length s ≡ 0 → ⊥) → byteAt s 0 ≡ 1 → firstRow s ≡ 0
 unfolding firstRow
 first-head [] n e = absurd (n refl)
 first-head (k ∷ r) n e = rw (eq-eqb k 1 e)
@@ -71,6 +77,6 @@ pub read-first : (s : List ℕ) → firstRow s ≡ 1 → readSheet s ≡ Refused
 unfolding readSheet reading
 read-first s e = rw e
 
-pub read-on : (s : List ℕ) → firstRow s ≡ 0 → recordsFrom 0 0 0 noContent s ≡ reading s
+pub read-on : (s : List ℕ) {at last : ℕ} {c : Content} → (length s ≡ 0 → ⊥) → byteAt s 0 ≡ 1 → Passed s at last c → recordsFrom at 0 last c (drop at s) ≡ reading s
 unfolding reading
-read-on s e = rw e
+read-on s n e p = from-passed s p ∙ rw (first-head s n e)

@@ -1,17 +1,26 @@
--- Which factor is due next while a sheet is read: what the contracts of the steps cite. Assumes nothing.
-use Prim.Native.Nat.{ℕ, _<_}
+-- Which factors pass in a run: what the contracts of the steps cite. Assumes nothing.
+use Prim.Native.Nat.{ℕ, _+_, _*_, _≤_, _<_}
 use mathlib.Core.Path.{_≡_}
+use mathlib.Core.Bool.{false}
+use mathlib.Core.List.{List}
 use lib.ListN.{length}
-use Rattle.due.specs.declared.Next.{Next}
-use Rattle.due.specs.Due.{Follows}
+use Rattle.fields.specs.Fields.{byteAt, be32, sbe16}
+use Rattle.due.specs.declared.Due.{Due}
+use Rattle.records.specs.Rows.{beyond}
 use Rattle.layout.specs.declared.Layout.{Layout}
-use Rattle.sheet.specs.Sheet.{dueOf}
 
--- the factor that is due behind those there are
-abbrev pub DueNext : Layout → Next → Type 0
-DueNext l next = Follows (l .zones) (l .units) (l .points) (l .pars) (l .factors) next
+-- target, subject and index as one number, as they stand in a record
+abbrev pub keyOf : Due → ℕ
+keyOf d = d .target * 16777216 + d .subject * 65536 + d .index
 
--- a record of a kind may come: a factor where one is due, any other before all factors
-pub record Admits (l : Layout) (kind : ℕ) : Type 0 where
-  pub factor : kind ≡ 6 → l .factors < length (dueOf l)
-  pub other : (kind ≡ 6 → ⊥) → l .factors ≡ 0
+-- a whole factor stands at a place, with this key and in range
+pub record Good (s : List ℕ) (at key : ℕ) : Type 0 where
+  pub bytes : (i : ℕ) → byteAt s i < 256
+  pub whole : at + 7 ≤ length s
+  pub kind : byteAt s at ≡ 6
+  pub bears : be32 s (at + 1) ≡ key
+  pub range : beyond 10000 (sbe16 s (at + 5)) ≡ false
+
+-- r factors more
+abbrev pub withFactors : Layout → ℕ → Layout
+withFactors l r = record { heads = l .heads; zones = l .zones; units = l .units; points = l .points; pars = l .pars; factors = l .factors + r }

@@ -1,10 +1,11 @@
 // The interval sheet: read once, and refused by rows 1 to 13 or accepted with its layout. An accepted sheet's records are then read where they stand.
 ghost use mathlib.Core.Path.{_≡_};
-ghost use Prim.Native.Nat.{_+_, _≤_, _<_};
+ghost use mathlib.Core.List.{List};
+ghost use Prim.Native.Nat.{ℕ, _+_, _*_, _≤_, _<_, _^_};
 ghost use lib.ListN.{length, drop};
 ghost use Rattle.fields.specs.Fields.{byteAt};
 ghost use Rattle.due.specs.Due.{Asked};
-ghost use mathlib.Core.Bool.{false};
+ghost use mathlib.Core.Bool.{true, false};
 ghost use Rattle.records.specs.Bodies.{bodyLength, bodyIn};
 ghost use Rattle.records.specs.Rows.{row};
 ghost use Rattle.records.specs.Content.{head, zone, unit, point, par, factorFor};
@@ -13,8 +14,7 @@ ghost use Rattle.layout.specs.Listed.{Listed};
 ghost use Rattle.sheet.specs.declared.Outcome.the-variants.{Accepted};
 ghost use Rattle.sheet.specs.Sheet.{cutShort, oneTooMany, frontRow, bodyRow, recordRow, endRow, readSheet, contentOf};
 ghost use Rattle.sheet.specs.Passed.{Passed};
-ghost use Rattle.sheet.specs.Steps.{DueNext, Admits};
-use due::Next;
+ghost use Rattle.sheet.specs.Steps.{keyOf, Good};
 use layout::Layout;
 use records::bodies;
 use records::rows;
@@ -24,6 +24,12 @@ use records::rows::row;
 pub enum Outcome {
     Accepted(Layout),
     Refused(u8, usize),
+}
+
+// A place behind records that pass: how many there are of each kind.
+struct Reached {
+    l: Layout,
+    at: usize,
 }
 
 fn one_too_many(l: Layout, kind: u8) -> bool
@@ -54,36 +60,37 @@ fn named_row(l: Layout, kind: u8, repeated: bool, b: &[u8]) -> u8
     requires { ⌜ (1 ≤ kind) × (kind ≤ 5) × (bodyLength kind ≤ length (now b)) ⌝ }
     ensures { λ r. ⌜ r ≡ bodyRow l kind repeated (now (b .entry)) ⌝ }
 {
+    let well = names::name_ok(names::name_at(b, 0));
     match kind {
-        1 => rows::head_row(bodies::head_of(b)),
-        2 => rows::zone_row(repeated, bodies::zone_of(b)),
-        3 => rows::unit_row(l.zones, repeated, bodies::unit_of(b)),
-        4 => rows::point_row(l.zones, repeated, bodies::point_of(b)),
-        _ => rows::par_row(repeated, bodies::par_of(b)),
+        1 => rows::head_row(well, bodies::head_of(b)),
+        2 => rows::zone_row(well, repeated, bodies::zone_of(b)),
+        3 => rows::unit_row(well, l.zones, repeated, bodies::unit_of(b)),
+        4 => rows::point_row(well, l.zones, repeated, bodies::point_of(b)),
+        _ => rows::par_row(well, repeated, bodies::par_of(b)),
     }
 }
 
 // Rows 3, 10 and 11 of a factor with the bytes b behind its kind byte.
-fn factor_row(l: Layout, next: Next, b: &[u8]) -> u8
-    requires { ⌜ Allowed l × DueNext l next ⌝ }
+fn factor_row(l: Layout, b: &[u8]) -> u8
+    requires { ⌜ Allowed l ⌝ }
     ensures { λ r. ⌜ r ≡ row 3 (cutShort 6 (length (now (b .entry)))) (bodyRow l 6 false (bodyIn 6 (now (b .entry)))) ⌝ }
 {
     if b.len() < 6 {
         return 3;
     }
     let f = bodies::factor_of(&b[0..6]);
-    rows::factor_row(l.zones, l.units, l.points, l.pars, l.factors, next, f)
+    rows::factor_row(l.zones, l.units, l.points, l.pars, l.factors, f)
 }
 
 // The first row that fits the record at a place, or 0. The table holds the names of the last kind, then of this record's.
-fn record_row(s: &[u8], l: Layout, next: Next, last: u8, at: usize, table: &mut [u16]) -> u8
-    requires { ⌜ Passed (now s) at last (contentAt (now s) l) × (at < length (now s)) × DueNext l next × Listed (now s) l last (now table) ⌝ }
+fn record_row(s: &[u8], l: Layout, last: u8, at: usize, table: &mut [u16]) -> u8
+    requires { ⌜ Passed (now s) at last (contentAt (now s) l) × (at < length (now s)) × Listed (now s) l last (now table) ⌝ }
     ensures { λ r. ⌜ (r ≡ recordRow (contentAt (now (s .entry)) l) last (byteAt (now (s .entry)) at) (drop (at + 1) (now (s .entry)))) × (r ≡ 0 → Listed (now (s .entry)) (counted l (byteAt (now (s .entry)) at)) (byteAt (now (s .entry)) at) (now (table .exit))) ⌝ }
 {
     let kind = s[at];
     let from = at + 1;
     if kind == 6 {
-        return factor_row(l, next, &s[from..]);
+        return factor_row(l, &s[from..]);
     }
     let front = front_row(l, last, kind, s.len() - from);
     if front != 0 {
@@ -94,15 +101,73 @@ fn record_row(s: &[u8], l: Layout, next: Next, last: u8, at: usize, table: &mut 
     named_row(l, kind, repeated, &s[from..to])
 }
 
-// Which factor is due behind one more record of a kind.
-fn due_behind(l: Layout, next: Next, kind: u8) -> Next
-    requires { ⌜ Allowed l × DueNext l next × Admits l kind ⌝ }
-    ensures { λ r. ⌜ DueNext (counted l kind) r ⌝ }
+// Whether a factor with this target, subject and index stands at a place and passes.
+fn good_factor(s: &[u8], at: usize, key: u32) -> bool
+    requires { ⌜ at + 7 ≤ length (now s) ⌝ }
+    ensures { λ r. ⌜ (r ≡ true → Good (now (s .entry)) at key) ⌝ }
 {
-    if kind == 6 {
-        return due::due_next(l.zones, l.units, l.points, l.pars, l.factors, next);
+    let due = (s[at] == 6) & (fields::be32_at(s, at + 1) == key);
+    due & !rows::factor_beyond(fields::sbe16_at(s, at + 5))
+}
+
+fn least(a: usize, b: usize) -> usize
+    ensures { λ r. ⌜ (r ≤ a) × (r ≤ b) ⌝ }
+{
+    if a < b { a } else { b }
+}
+
+// How many good factors, up to `most`, follow one another from a place on, with rising index.
+fn good_factors(s: &[u8], at: usize, key: u32, most: usize) -> usize
+    requires { ⌜ (at ≤ length (now s)) × (key + most < 2 ^ 32) ⌝ }
+    ensures { λ r. ⌜ (r ≤ most) × ((k : ℕ) → k < r → Good (now (s .entry)) (at + 7 * k) (key + k)) ⌝ }
+{
+    let whole = least((s.len() - at) / 7, most);
+    let mut n = 0;
+    let mut p = at;
+    while n < whole {
+        if !good_factor(s, p, key + n as u32) {
+            return n;
+        }
+        n += 1;
+        p += 7;
     }
-    next
+    n
+}
+
+fn key_of(d: due::Due) -> u32
+    requires { ⌜ (d .target ≤ 8) × (d .subject ≤ 4) × (d .index ≤ 256) ⌝ }
+    ensures { λ r. ⌜ r ≡ keyOf d ⌝ }
+{
+    let target = d.target as u32;
+    let subject = d.subject as u32;
+    target * 0x100_0000 + subject * 0x1_0000 + d.index as u32
+}
+
+// Past the factors behind a factor that pass too, up to the last of their target and subject. Each is judged by its bytes in one go; the first that is not good is left to `record_row`.
+fn past_factors(s: &[u8], l: Layout, last: u8, at: usize) -> Reached
+    requires { ⌜ Passed (now s) at last (contentAt (now s) l) ⌝ }
+    ensures { λ r. ⌜ (at ≤ r .at) × Passed (now (s .entry)) (r .at) last (contentAt (now (s .entry)) (r .l)) × ((table : List ℕ) → Listed (now (s .entry)) l last table → Listed (now (s .entry)) (r .l) last table) ⌝ }
+{
+    if last != 6 {
+        return Reached { l, at };
+    }
+    if due::due_count(l.zones, l.units, l.points, l.pars) <= l.factors {
+        return Reached { l, at };
+    }
+    let most = due::due_run(l.zones, l.units, l.points, l.pars, l.factors);
+    let key = key_of(due::due_at(l.zones, l.units, l.points, l.pars, l.factors));
+    let n = good_factors(s, at, key, most);
+    Reached {
+        l: Layout {
+            heads: l.heads,
+            zones: l.zones,
+            units: l.units,
+            points: l.points,
+            pars: l.pars,
+            factors: l.factors + n,
+        },
+        at: at + 7 * n,
+    }
 }
 
 // Rows 12 and 13.
@@ -132,22 +197,20 @@ pub fn read(s: &[u8]) -> Outcome
         pars: 0,
         factors: 0,
     };
-    let mut next = Next {
-        target: 0,
-        offset: 0,
-    };
     let mut table = [0u16; 842];
     let mut last = 0;
     let mut at = 0;
     while at < s.len() {
-        let number = record_row(s, l, next, last, at, &mut table);
+        let number = record_row(s, l, last, at, &mut table);
         if number != 0 {
             return Outcome::Refused(number, at);
         }
         last = s[at];
-        next = due_behind(l, next, last);
         l = layout::counted(l, last);
         at = at + 1 + bodies::body_length(last);
+        let past = past_factors(s, l, last, at);
+        l = past.l;
+        at = past.at;
     }
     let number = end_row(l);
     if number != 0 {

@@ -23,9 +23,7 @@ factor-of-requires : tie.Need-factor-of-requires
 factor-of-requires c κs = search needs
 
 factor-row-requires : tie.Need-factor-row-requires
-factor-row-requires c κs =
-    let p = c .before .before .before .before .pre in
-    (p .0 .few, p .1)
+factor-row-requires c κs = c .before .before .before .before .pre .few
 
 returns-2 : tie.Need-returns-2
 unfolding bodyRow byKind

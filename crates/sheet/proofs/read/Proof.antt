@@ -1,4 +1,4 @@
--- `read` meets its contract. The loop's invariant: the records before `at` have passed, `l` counts them, and what is left answers for the whole. Assumes nothing.
+-- `read` meets its contract. The loop's invariant: the records before `at` have passed, and `l` counts them. Assumes nothing.
 use Prim.Native.Nat.{_-_}
 use mathlib.Core.Path.{_≡_, sym, _∙_}
 use native.Mathlib.Omega.{arith}
@@ -6,24 +6,22 @@ use lib.ListN.{length, drop}
 use borrow.Author.Tests.{eq-eqb, ne-eqb}
 use borrow.Author.Needs.{needs}
 use denote.Ref.{now}
-use Rattle.due.proofs.Follows.{follows-first}
 use Rattle.layout.proofs.Contents.{none-at, layout-at}
 use Rattle.layout.proofs.Listed.{listed-none}
 use Rattle.layout.specs.Layout.{contentAt}
 use Rattle.layout.specs.Listed.{Listed}
 use Rattle.sheet.specs.Passed.{Passed, none, more}
-use Rattle.sheet.specs.Steps.{DueNext}
 use Rattle.sheet.specs.Sheet.{recordsFrom, reading, readSheet}
-use Rattle.sheet.proofs.Walk.{rowHere, first-empty, first-other, first-head, read-first, read-on, from-refused, from-next, from-end}
-use Rattle.sheet.proofs.Reach.{at-laid, at-allowed, at-admits, at-fronted, at-next}
+use Rattle.sheet.proofs.Walk.{rowHere, first-empty, first-other, read-first, read-on, from-refused, from-end}
+use Rattle.sheet.proofs.Reach.{at-laid, at-allowed, at-fronted, at-next}
 use Rattle.sheet.proofs.read.Statement.{statement}
 use Rattle.sheet.proofs.read.Tie as tie
 
 abbrev Inv-loop : tie.InvT-loop
-Inv-loop s l₀ next₀ table₀ last₀ at₀ l next table last at = Passed s at last (contentAt s l) × (recordsFrom at 0 last (contentAt s l) (drop at s) ≡ reading s) × DueNext l next × Listed s l last table
+Inv-loop s l₀ table₀ last₀ at₀ l table last at = Passed s at last (contentAt s l) × Listed s l last table
 
 abbrev μ-loop : tie.MeasureT-loop
-μ-loop s l₀ next₀ table₀ last₀ at₀ l next table last at = length s - at
+μ-loop s l₀ table₀ last₀ at₀ l table last at = length s - at
 
 returns : tie.Need-returns Inv-loop μ-loop
 returns c =
@@ -41,7 +39,13 @@ returns-2 c =
 loop-holds : tie.Need-loop-holds Inv-loop μ-loop
 loop-holds c =
     let s = now (c .before .before .before .before .args .s) in
-    rw (none-at s) (none, read-on s (first-head s (c .before .before .if1 .left) (c .if2 .left)), follows-first 0 0 0 0, listed-none s)
+    rw (none-at s) (none, listed-none s)
+
+-- what is left answers for the whole
+rest : (c : tie.At-loop Inv-loop μ-loop) →
+    let s = now (c .before .before .before .before .before .args .s) in
+    recordsFrom (c .loop .at) 0 (c .loop .last) (contentAt s (c .loop .l)) (drop (c .loop .at) s) ≡ reading s
+rest c = read-on _ (c .before .before .before .if1 .left) (c .before .if2 .left) (c .loop .inv .0)
 
 slice-aggregate-record-row : tie.Need-slice-aggregate-record-row Inv-loop μ-loop
 slice-aggregate-record-row c = search needs
@@ -49,7 +53,7 @@ slice-aggregate-record-row c = search needs
 record-row-requires : tie.Need-record-row-requires Inv-loop μ-loop
 record-row-requires c κs =
     let i = c .before .before .loop .inv in
-    (i .0, c .before .loop-test .taken, i .2, i .3)
+    (i .0, c .before .loop-test .taken, i .1)
 
 returns-3 : tie.Need-returns-3 Inv-loop μ-loop
 unfolding readSheet
@@ -58,7 +62,7 @@ returns-3 c =
     let l = r .before .before .before in
     let s = now (l .before .before .before .before .before .args .s) in
     let e = r .record-row .ensures .0 in
-    rw (← l .loop .inv .1, from-refused s (l .loop .at) (l .loop .last) (contentAt s (l .loop .l)) (r .before .before .loop-test .taken) (λ q. c .if3 .taken (e ∙ q)), e)
+    rw (← rest l, from-refused s (l .loop .at) (l .loop .last) (contentAt s (l .loop .l)) (r .before .before .loop-test .taken) (λ q. c .if3 .taken (e ∙ q)), e)
 
 shared-slice-read-last : tie.Need-shared-slice-read-last Inv-loop μ-loop
 shared-slice-read-last c = search needs
@@ -70,16 +74,9 @@ passes : (c : tie.Else3 Inv-loop μ-loop) →
     rowHere s (l .loop .at) (l .loop .last) (contentAt s (l .loop .l)) ≡ 0
 passes c = sym (c .before .before .record-row .ensures .0) ∙ c .if3 .left
 
-due-behind-requires : tie.Need-due-behind-requires Inv-loop μ-loop
-due-behind-requires c κs =
-    let e = c .before in
-    let i = e .before .before .before .before in
-    let l = i .before .loop in
-    (at-allowed _ _ _ _ (l .inv .0), l .inv .2, at-admits _ (l .at) (l .last) (l .l) (l .inv .0) (i .loop-test .taken) (passes e))
-
 counted-requires : tie.Need-counted-requires Inv-loop μ-loop
 counted-requires c κs =
-    let l = c .before .before .before .before .before .before .before .loop in
+    let l = c .before .before .before .before .before .before .loop in
     omega (arith, at-laid _ _ _ _ (l .inv .0) .here)
 
 add-at : tie.Need-add-at Inv-loop μ-loop
@@ -90,26 +87,31 @@ body-length-requires c κs = search needs
 
 add-at-2 : tie.Need-add-at-2 Inv-loop μ-loop
 add-at-2 c =
-    let e = c .before .before .before .before in
+    let e = c .before .before .before in
     let i = e .before .before .before .before in
     let l = i .before .loop in
     let f = at-fronted _ (l .at) (l .last) (l .l) (l .inv .0) (i .loop-test .taken) (passes e) in
     omega (arith, f .fits, c .body-length .ensures)
 
-loop-less : tie.Need-loop-less Inv-loop μ-loop
-loop-less c = omega arith
-
-loop-again : tie.Need-loop-again Inv-loop μ-loop
-loop-again c =
-    let e = c .before .before .before .before in
-    let r = e .before .before in
-    let i = r .before .before in
+past-factors-requires : tie.Need-past-factors-requires Inv-loop μ-loop
+past-factors-requires c κs =
+    let e = c .before .before .before in
+    let i = e .before .before .before .before in
     let l = i .before .loop in
     let s = now (i .before .before .before .before .before .before .args .s) in
     let h = i .loop-test .taken in
     let q = passes e in
-    rw (c .before .counted .ensures, c .body-length .ensures)
-    (rw (at-next s (l .at) (l .last) (l .l) (l .inv .0) h q) at (more (l .inv .0) h q), rw (at-next s (l .at) (l .last) (l .l) (l .inv .0) h q) at (from-next s (l .at) (l .last) (contentAt s (l .l)) h q ∙ l .inv .1), c .before .before .due-behind .ensures, r .record-row .ensures .1 (e .if3 .left))
+    rw (c .before .counted .ensures, c .body-length .ensures) (rw (at-next s (l .at) (l .last) (l .l) (l .inv .0) h q) at (more (l .inv .0) h q))
+
+loop-less : tie.Need-loop-less Inv-loop μ-loop
+loop-less c = omega (arith, c .before .past-factors .ensures .0)
+
+loop-again : tie.Need-loop-again Inv-loop μ-loop
+loop-again c =
+    let f = c .before in
+    let e = f .before .before .before .before in
+    let p = f .past-factors .ensures in
+    (p .1, p .2 _ (rw (f .before .before .counted .ensures) (e .before .before .record-row .ensures .1 (e .if3 .left))))
 
 end-row-requires : tie.Need-end-row-requires Inv-loop μ-loop
 end-row-requires c κs = at-allowed _ _ _ _ (c .before .loop .inv .0)
@@ -117,16 +119,18 @@ end-row-requires c κs = at-allowed _ _ _ _ (c .before .loop .inv .0)
 returns-4 : tie.Need-returns-4 Inv-loop μ-loop
 unfolding readSheet
 returns-4 c =
-    let l = c .before .before .before .loop in
-    let s = now (c .before .before .before .before .before .before .before .before .args .s) in
-    rw (← l .inv .1, from-end s (l .at) (l .last) (contentAt s (l .l)) (c .before .before .loop-test .left), layout-at s (l .l), ← c .before .end-row .ensures, ne-eqb _ _ (c .if4 .taken))
+    let a = c .before .before .before in
+    let l = a .loop in
+    let s = now (a .before .before .before .before .before .args .s) in
+    rw (← rest a, from-end s (l .at) (l .last) (contentAt s (l .l)) (c .before .before .loop-test .left), layout-at s (l .l), ← c .before .end-row .ensures, ne-eqb _ _ (c .if4 .taken))
 
 returns-5 : tie.Need-returns-5 Inv-loop μ-loop
 unfolding readSheet
 returns-5 c =
-    let l = c .before .before .before .loop in
-    let s = now (c .before .before .before .before .before .before .before .before .args .s) in
-    rw (← l .inv .1, from-end s (l .at) (l .last) (contentAt s (l .l)) (c .before .before .loop-test .left), layout-at s (l .l), ← c .before .end-row .ensures, eq-eqb _ _ (c .if4 .left), layout-at s (l .l))
+    let a = c .before .before .before in
+    let l = a .loop in
+    let s = now (a .before .before .before .before .before .args .s) in
+    rw (← rest a, from-end s (l .at) (l .last) (contentAt s (l .l)) (c .before .before .loop-test .left), layout-at s (l .l), ← c .before .end-row .ensures, eq-eqb _ _ (c .if4 .left), layout-at s (l .l))
 
 pub read-spec : {M : Type 1} → statement M
 read-spec =
@@ -142,11 +146,11 @@ read-spec =
     record-row-requires
     returns-3
     shared-slice-read-last
-    due-behind-requires
     counted-requires
     add-at
     body-length-requires
     add-at-2
+    past-factors-requires
     loop-less
     loop-again
     end-row-requires

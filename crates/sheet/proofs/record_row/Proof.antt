@@ -46,9 +46,7 @@ part-factor-row-end : tie.Need-part-factor-row-end
 part-factor-row-end c = search needs
 
 factor-row-requires : tie.Need-factor-row-requires
-factor-row-requires c κs =
-    let p = c .before .before .before .before .before .pre in
-    (at-allowed _ _ _ _ (p .0), p .2)
+factor-row-requires c κs = at-allowed _ _ _ _ (c .before .before .before .before .before .pre .0)
 
 returns : tie.Need-returns
 unfolding recordRow bodyRow byKind
@@ -58,7 +56,7 @@ returns c =
     let a = p .args in
     let s = now (a .s) in
     let e = rw (tail-is s (a .at + 1)) at (c .factor-row .ensures) in
-    let t = p .pre .3 in
+    let t = p .pre .2 in
     rw (k .if1 .taken) (
       rw (layout-at s (a .l), front-factor (a .l) (a .last) (length (drop (a .at + 1) s)) _ (reach-last s (p .pre .0))) e,
       λ q. record { full = t .full; holds = λ h. absurd (omega arith) },
@@ -85,7 +83,7 @@ repeated-requires c κs =
     let f = passes (c .before) in
     let v = at-laid _ _ _ _ (p .pre .0) in
     let n = k .if1 .left in
-    (f .low, omega (arith, n, f .high), laid-at (a .l) _ (a .at) _ v (f .low) (f .high) (f .order), omega (arith, f .fits), at-allowed _ _ _ _ (p .pre .0), listed-at _ (a .l) _ _ (a .last) (a .at) v (f .order) (f .high) (p .pre .3))
+    (f .low, omega (arith, n, f .high), laid-at (a .l) _ (a .at) _ v (f .low) (f .high) (f .order), omega (arith, f .fits), at-allowed _ _ _ _ (p .pre .0), listed-at _ (a .l) _ _ (a .last) (a .at) v (f .order) (f .high) (p .pre .2))
 
 body-length-requires : tie.Need-body-length-requires
 body-length-requires c κs = search needs

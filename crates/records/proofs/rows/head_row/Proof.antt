@@ -25,8 +25,9 @@ name-rows-requires c κs = search needs
 returns : tie.Need-returns
 unfolding headRow
 returns c =
-    let n = c .before .before .before .before .before .before in
-    rw (c .name-rows .ensures, c .before .row2 .ensures, c .before .before .row .ensures, n .outside .ensures, n .before .unlisted .ensures)
+    let n = c .before .before .before in
+    let u = n .before .before .before .before in
+    rw (c .name-rows .ensures, c .before .row2 .ensures, c .before .before .row .ensures, n .outside .ensures, u .unlisted .ensures, u .before .pre)
 
 pub head-row-spec : {M : Type 1} → statement M
 head-row-spec =

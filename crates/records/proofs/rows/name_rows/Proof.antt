@@ -3,9 +3,6 @@ use borrow.Author.Needs.{needs}
 use Rattle.records.proofs.rows.name_rows.Statement.{statement}
 use Rattle.records.proofs.rows.name_rows.Tie as tie
 
-name-ok-requires : tie.Need-name-ok-requires
-name-ok-requires c κs = search needs
-
 row-requires : tie.Need-row-requires
 row-requires c κs = search needs
 
@@ -13,7 +10,7 @@ row-requires-2 : tie.Need-row-requires-2
 row-requires-2 c κs = search needs
 
 returns : tie.Need-returns
-returns c = rw (c .row2 .ensures, c .before .row .ensures, c .before .before .name-ok .ensures)
+returns c = rw (c .row2 .ensures, c .before .row .ensures)
 
 pub name-rows-spec : {M : Type 1} → statement M
-name-rows-spec = tie.close (tie.spec name-ok-requires row-requires row-requires-2 returns)
+name-rows-spec = tie.close (tie.spec row-requires row-requires-2 returns)

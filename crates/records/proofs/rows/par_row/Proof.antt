@@ -27,12 +27,13 @@ name-rows-requires c κs = search needs
 returns : tie.Need-returns
 unfolding parRow
 returns c =
-    let t = c .before .before .before .before .before .before in
+    let t = c .before .before .before in
     let a = t .before .before in
-    let p = a .before .before .before .args .t2 in
+    let u = a .before .before in
+    let p = u .before .args .p in
     let actual = toZ-ofZ {w = w32} {z = p .actual} (record { sfits = a .before .struct-told .given .1 .1 .0 .1 }) in
     let target = toZ-ofZ {w = w32} {z = p .target} (record { sfits = t .before .struct-told2 .given .1 .1 .1 .0 .1 }) in
-    rw (c .name-rows .ensures, c .before .row2 .ensures, c .before .before .row .ensures, t .power-beyond2 .ensures, a .power-beyond .ensures, actual, target, a .before .before .unlisted .ensures)
+    rw (c .name-rows .ensures, c .before .row2 .ensures, c .before .before .row .ensures, t .power-beyond2 .ensures, a .power-beyond .ensures, actual, target, u .unlisted .ensures, u .before .pre)
 
 pub par-row-spec : {M : Type 1} → statement M
 par-row-spec =

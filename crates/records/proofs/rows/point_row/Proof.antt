@@ -22,8 +22,8 @@ name-rows-requires c κs = search needs
 returns : tie.Need-returns
 unfolding pointRow
 returns c =
-    let p = c .before .before .before .before .before .before in
-    rw (c .name-rows .ensures, c .before .row2 .ensures, c .before .before .row .ensures, p .place-unknown .ensures, p .before .unlisted .ensures)
+    let p = c .before .before .before .before .before in
+    rw (c .name-rows .ensures, c .before .row2 .ensures, c .before .before .row .ensures, p .place-unknown .ensures, p .before .unlisted .ensures, p .before .before .pre)
 
 pub point-row-spec : {M : Type 1} → statement M
 point-row-spec =

@@ -18,7 +18,9 @@ name-rows-requires c κs = search needs
 
 returns : tie.Need-returns
 unfolding unitRow
-returns c = rw (c .name-rows .ensures, c .before .row2 .ensures, c .before .before .row .ensures, c .before .before .before .before .before .before .no-zone-of .ensures)
+returns c =
+    let z = c .before .before .before .before in
+    rw (c .name-rows .ensures, c .before .row2 .ensures, c .before .before .row .ensures, z .no-zone-of .ensures, z .before .pre)
 
 pub unit-row-spec : {M : Type 1} → statement M
 unit-row-spec =

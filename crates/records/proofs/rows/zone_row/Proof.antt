@@ -12,7 +12,7 @@ name-rows-requires c κs = search needs
 
 returns : tie.Need-returns
 unfolding zoneRow
-returns c = rw (c .name-rows .ensures, c .before .row .ensures)
+returns c = rw (c .name-rows .ensures, c .before .row .ensures, c .before .before .before .before .pre)
 
 pub zone-row-spec : {M : Type 1} → statement M
 zone-row-spec = tie.close (tie.spec row-requires name-rows-requires returns)
