@@ -4,7 +4,7 @@ use mathlib.Core.Path.{_≡_}
 use mathlib.Core.Bool.{Bool, false}
 use mathlib.Core.List.{List, [], _∷_}
 use lib.ListN.{length, drop, getD}
-use Rattle.index.specs.Index.{Indexed}
+use Rattle.name_index.specs.Index.{Indexed}
 use Rattle.entitlements.specs.Entitlements.{Entry, recordLength, mostRecords, entryOf, recordFault}
 
 -- the entries of the first n records, the latest first

@@ -4,7 +4,7 @@ ghost use mathlib.Core.Bool.{false, _||_};
 ghost use Prim.Native.Nat.{_+_, _*_, _≤_, _<_};
 ghost use lib.ListN.{length, drop, getD};
 ghost use Rattle.entitlements.specs.Entitlements.{bodyLength, recordLength, entryOf, badName, outOfRange, recordFault, row14, entriesOf, lookUp, entitlement};
-ghost use Rattle.index.specs.Index.{Indexed};
+ghost use Rattle.name_index.specs.Index.{Indexed};
 ghost use Rattle.entitlements.specs.Steps.{Roomy, Judged};
 
 // What the list says of a flowgate: the Non-Monitoring RTO's entitlement in tenths of a MW, or the refusal's number.
@@ -55,7 +55,7 @@ fn record_fault(list: &[u8], at: usize, n: usize, mask: usize, table: &mut [u16]
     if MOST_RECORDS <= n {
         return true;
     }
-    if index::seen_before(list, from, 1, RECORD, 0, n, mask, table) {
+    if name_index::seen_before(list, from, 1, RECORD, 0, n, mask, table) {
         return true;
     }
     (list[at] != KIND) | entry_fault(&list[from..])

@@ -7,7 +7,7 @@ use mathlib.Core.List.{List, [], _∷_}
 use lib.Dec.{lit≤}
 use lib.IntN.{pos, natAbs}
 use lib.ListN.{length, getD}
-use Rattle.due.specs.Due.{tab, each, flowgate, perPar, dueList}
+use Rattle.due_factors.specs.Due.{tab, each, flowgate, perPar, dueList}
 use Rattle.records.specs.declared.Place.the-variants.{Proxy, Line}
 use Rattle.records.specs.declared.Factor.{Factor}
 use Rattle.records.specs.Content.{Content, head, noZone, noUnit, noPoint, noPar, bears, factorFor}

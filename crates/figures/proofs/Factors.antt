@@ -5,7 +5,7 @@ use mathlib.Core.Path.{refl}
 use lib.Dec.{lit≤}
 use lib.IntN.{natAbs}
 use lib.ListN.{length}
-use Rattle.due.specs.Due.{Asked, howMany}
+use Rattle.due_factors.specs.Due.{Asked, howMany}
 use Rattle.records.specs.Content.{Content}
 use Rattle.records.specs.Valid.{Valid}
 use Rattle.figures.specs.Flow.{unitFactor, zoneFactor, pointFactor, parFactor}

@@ -14,7 +14,7 @@ use Rattle.integers.proofs.Machine.{Num, Op, rd, num-is, add, sub, mul}
 use Rattle.quotient.specs.declared.Quotient.{Quotient}
 use Rattle.quotient.specs.Rounded.{quotient, remainder}
 use Rattle.quotient.proofs.Laws.{near}
-use Rattle.due.specs.Due.{Asked, howMany}
+use Rattle.due_factors.specs.Due.{Asked, howMany}
 use Rattle.layout.specs.declared.Layout.{Layout}
 use Rattle.records.specs.Content.{Content, par, factorFor}
 use Rattle.records.specs.Valid.{Valid}
@@ -28,8 +28,8 @@ use Rattle.figures.proofs.Factors.{par-factor-within}
 use Rattle.figures.proofs.Ranges.{schedule-flow-within, control-within}
 use Rattle.balance.specs.declared.Balance.{Balance}
 use Rattle.balance.specs.Balance.{balanceOf}
-use Rattle.weighted.specs.Weighted.{weightedSum}
-use Rattle.weighted.proofs.Laws.{outputs-are, loads-are, schedules-are, control-is}
+use Rattle.weighted_sums.specs.Weighted.{weightedSum}
+use Rattle.weighted_sums.proofs.Laws.{outputs-are, loads-are, schedules-are, control-is}
 use Rattle.flow.specs.declared.GenerationToLoad.{GenerationToLoad}
 use Rattle.flow.specs.Flow.{Ready, Divided, gtlOf, parShare, rowOf, flowOf}
 

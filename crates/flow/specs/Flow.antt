@@ -12,7 +12,7 @@ use Rattle.sheet.specs.Sheet.{contentOf}
 use Rattle.figures.specs.Flow.{common, parFactor, generationToLoad, firstRemainder, secondRemainder, parallel, shadow, redirect, nonCommonRedirect, marketFlow, flowOutside}
 use Rattle.balance.specs.declared.Balance.{Balance}
 use Rattle.balance.specs.Balance.{balanceOf}
-use Rattle.weighted.specs.Weighted.{Given}
+use Rattle.weighted_sums.specs.Weighted.{Given}
 use Rattle.flow.specs.declared.GenerationToLoad.{GenerationToLoad}
 use Rattle.flow.specs.declared.Flow.{Flow}
 

@@ -6,12 +6,12 @@ ghost use lib.Signed.{_<ℤ_};
 ghost use Rattle.sheet.specs.Sheet.{contentOf};
 ghost use Rattle.figures.specs.Flow.{carriedTerm, carriedSum, redirect, nonCommonRedirect};
 ghost use Rattle.flow.specs.Flow.{Ready, Divided, gtlOf, parShare, rowOf, flowOf};
-use weighted::COMMON;
-use weighted::NON_COMMON;
-use weighted::PAR;
-use weighted::POINT;
-use weighted::UNIT;
-use weighted::ZONE;
+use weighted_sums::COMMON;
+use weighted_sums::NON_COMMON;
+use weighted_sums::PAR;
+use weighted_sums::POINT;
+use weighted_sums::UNIT;
+use weighted_sums::ZONE;
 
 // The flowgate as a target; the PAR of index i is target i + 1.
 const FLOWGATE: usize = 0;
@@ -66,9 +66,9 @@ pub fn generation_to_load<'a>(
     requires { ⌜ Ready (now s) l b (now plus) (now minus) × (target ≤ l .pars) ⌝ }
     ensures { λ r. ⌜ r ≡ gtlOf (contentOf (now (s .entry))) target ⌝ }
 {
-    let n = weighted::weighted(s, l, plus, minus, ZONE, 0, target);
+    let n = weighted_sums::weighted(s, l, plus, minus, ZONE, 0, target);
     let share = load_share(b.gross_output, n, b.net_load);
-    let a = weighted::weighted(s, l, plus, minus, UNIT, 0, target);
+    let a = weighted_sums::weighted(s, l, plus, minus, UNIT, 0, target);
     let flow = scaled_down(a, share.quotient, b.final_generation, b.net_generation);
     GenerationToLoad {
         flow: flow.quotient,
@@ -90,7 +90,7 @@ fn over_par<'a>(
     ensures { λ r. ⌜ r ≡ parShare (contentOf (now (s .entry))) i ⌝ }
 {
     let gtl = generation_to_load(s, l, b, plus, minus, i + 1);
-    let parallel = weighted::weighted(s, l, plus, minus, POINT, NON_COMMON, i + 1);
+    let parallel = weighted_sums::weighted(s, l, plus, minus, POINT, NON_COMMON, i + 1);
     let factor = sheet::factor_at(s, l, FLOWGATE, PAR, i);
     factor * (gtl.flow + parallel)
 }
@@ -149,7 +149,7 @@ fn redirect<'a>(
 {
     let sum = carried_sum(s, l, b, plus, minus, class);
     let carried = quotient::rounded_quotient(sum, 10000);
-    let control = weighted::weighted(s, l, plus, minus, PAR, class, FLOWGATE);
+    let control = weighted_sums::weighted(s, l, plus, minus, PAR, class, FLOWGATE);
     carried.quotient - control
 }
 
@@ -204,8 +204,8 @@ pub fn flow_of<'a>(
     ensures { λ r. ⌜ r ≡ flowOf (contentOf (now (s .entry))) ⌝ }
 {
     let g = generation_to_load(s, l, b, plus, minus, FLOWGATE);
-    let parallel = weighted::weighted(s, l, plus, minus, POINT, NON_COMMON, FLOWGATE);
-    let shadow = weighted::weighted(s, l, plus, minus, POINT, COMMON, FLOWGATE);
+    let parallel = weighted_sums::weighted(s, l, plus, minus, POINT, NON_COMMON, FLOWGATE);
+    let shadow = weighted_sums::weighted(s, l, plus, minus, POINT, COMMON, FLOWGATE);
     let common = redirect(s, l, b, plus, minus, COMMON);
     let noncommon = noncommon_redirect(s, l, b, plus, minus);
     let market = market_flow(g.flow, parallel, shadow, common, noncommon);

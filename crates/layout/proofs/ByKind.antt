@@ -4,7 +4,7 @@ use mathlib.Core.Path.{_≡_, refl}
 use mathlib.Core.Bool.{Bool, true, false, cond}
 use lib.Dec.{eqb}
 use native.Mathlib.Omega.{arith}
-use Rattle.due.proofs.Tab.{below-or}
+use Rattle.due_factors.proofs.Tab.{below-or}
 use Rattle.records.specs.Bodies.{byKind, bodyLength}
 
 -- a fact of each kind

@@ -8,8 +8,8 @@ use native.Mathlib.Omega.{arith}
 use lib.Dec.{eqb}
 use lib.ListN.{drop}
 use borrow.Author.Tests.{eqb-true, eqb-false}
-use Rattle.due.specs.Due.{tab}
-use Rattle.due.proofs.Tab.{below-or, length-tab}
+use Rattle.due_factors.specs.Due.{tab}
+use Rattle.due_factors.proofs.Tab.{below-or, length-tab}
 use Rattle.records.specs.Bodies.{byKind, bodyIn, headOf, zoneOf, unitOf, pointOf, parOf, factorOf}
 use Rattle.records.specs.Content.{onlyIf, noContent, withRecord}
 use Rattle.layout.specs.declared.Layout.{Layout}

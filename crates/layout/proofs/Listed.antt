@@ -4,10 +4,10 @@ use mathlib.Core.Path.{_≡_}
 use mathlib.Core.List.{List}
 use native.Mathlib.Omega.{arith}
 use lib.ListN.{length, replicate, length-replicate}
-use Rattle.due.proofs.Tab.{below-or}
+use Rattle.due_factors.proofs.Tab.{below-or}
 use Rattle.records.specs.Bodies.{byKind}
-use Rattle.index.specs.Index.{Indexed}
-use Rattle.index.proofs.Laws.{none, turned}
+use Rattle.name_index.specs.Index.{Indexed}
+use Rattle.name_index.proofs.Laws.{none, turned}
 use Rattle.layout.specs.declared.Layout.{Layout}
 use Rattle.layout.specs.Layout.{count, counted, noRecords, size, firstOf}
 use Rattle.layout.specs.Listed.{named, mask, tableSize, Listed}

@@ -7,7 +7,7 @@ use native.Mathlib.Omega.{arith}
 use lib.ListN.{drop}
 use lib.Seq.{take-take}
 use Rattle.names.specs.Names.{nameAt, sameList, ifB, among}
-use Rattle.due.specs.Due.{tab}
+use Rattle.due_factors.specs.Due.{tab}
 use Rattle.records.specs.Bodies.{byKind, bodyLength, bodyIn, headOf, zoneOf, unitOf, pointOf, parOf}
 use Rattle.records.specs.Content.{namesOf}
 use Rattle.records.specs.Rows.{oneOf, repeats}

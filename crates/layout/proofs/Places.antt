@@ -5,7 +5,7 @@ use native.Mathlib.Numerals.{add-one}
 use native.Mathlib.Omega.{arith}
 use lib.Dec.{eqb}
 use borrow.Author.Tests.{ne-eqb}
-use Rattle.due.proofs.Tab.{below-or}
+use Rattle.due_factors.proofs.Tab.{below-or}
 use Rattle.records.specs.Bodies.{byKind}
 use Rattle.layout.specs.declared.Layout.{Layout}
 use Rattle.layout.specs.Layout.{one, count, counted, size, firstOf, startOf, extent}

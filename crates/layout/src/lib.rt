@@ -110,5 +110,5 @@ pub fn repeated(s: &[u8], l: Layout, kind: u8, at: usize, table: &mut [u16]) -> 
     let stride = size_of(kind);
     let first = at - stride * n + 1;
     let below = named_of(l) - n;
-    index::seen_before(s, at + 1, first, stride, below, n, MASK, table)
+    name_index::seen_before(s, at + 1, first, stride, below, n, MASK, table)
 }

@@ -10,8 +10,8 @@ use lib.IntN.{natAbs}
 use lib.ListN.{length, getD}
 use borrow.Author.Tests.{ltb-false, leb-false, not-false}
 use Rattle.names.specs.Names.{nameOk}
-use Rattle.due.specs.declared.Due.{Due}
-use Rattle.due.specs.Due.{noDue}
+use Rattle.due_factors.specs.declared.Due.{Due}
+use Rattle.due_factors.specs.Due.{noDue}
 use Rattle.records.specs.declared.Head.{Head}
 use Rattle.records.specs.declared.Zone.{Zone}
 use Rattle.records.specs.declared.Unit.{Unit}

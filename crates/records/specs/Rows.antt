@@ -6,8 +6,8 @@ use lib.Dec.{leb, ltb}
 use lib.IntN.{ℤ, natAbs}
 use lib.ListN.{length, getD}
 use Rattle.names.specs.Names.{nameOk, sameList, nameAt}
-use Rattle.due.specs.declared.Due.{Due}
-use Rattle.due.specs.Due.{noDue}
+use Rattle.due_factors.specs.declared.Due.{Due}
+use Rattle.due_factors.specs.Due.{noDue}
 use Rattle.records.specs.declared.Head.{Head}
 use Rattle.records.specs.declared.Zone.{Zone}
 use Rattle.records.specs.declared.Unit.{Unit}

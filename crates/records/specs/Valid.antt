@@ -6,7 +6,7 @@ use mathlib.Core.List.{List}
 use lib.IntN.{natAbs}
 use lib.ListN.{length, take, getD}
 use Rattle.names.specs.Names.{nameOk}
-use Rattle.due.specs.Due.{Asked, dueList}
+use Rattle.due_factors.specs.Due.{Asked, dueList}
 use Rattle.records.specs.declared.Head.{Head}
 use Rattle.records.specs.declared.Zone.{Zone}
 use Rattle.records.specs.declared.Unit.{Unit}

@@ -2,7 +2,7 @@
 ghost use mathlib.Core.Path.{_≡_};
 ghost use mathlib.Core.Bool.{not};
 ghost use Rattle.names.specs.Names.{nameOk};
-ghost use Rattle.due.specs.Due.{dueList, Few};
+ghost use Rattle.due_factors.specs.Due.{dueList, Few};
 ghost use Rattle.records.specs.Content.{bears};
 ghost use Rattle.records.specs.Rows.{row, outside, beyond, unlisted, noZoneOf, placeUnknown, headRow, zoneRow, unitRow, pointRow, parRow, factorRow};
 use super::Factor;
@@ -120,7 +120,7 @@ pub fn par_row(well: bool, repeated: bool, p: Par) -> u8
 }
 
 // Whether the factor is the one for d.
-fn bears(f: Factor, d: due::Due) -> bool
+fn bears(f: Factor, d: due_factors::Due) -> bool
     ensures { λ r. ⌜ r ≡ bears f (d .target) (d .subject) (d .index) ⌝ }
 {
     (f.target as usize == d.target) & ((f.subject == d.subject) & (f.index as usize == d.index))
@@ -131,9 +131,9 @@ pub fn factor_row(zones: usize, units: usize, points: usize, pars: usize, n: usi
     requires { ⌜ Few zones units points pars ⌝ }
     ensures { λ r. ⌜ r ≡ factorRow (dueList zones units points pars) n f ⌝ }
 {
-    if due::due_count(zones, units, points, pars) <= n {
+    if due_factors::due_count(zones, units, points, pars) <= n {
         return 10;
     }
-    let d = due::due_at(zones, units, points, pars, n);
+    let d = due_factors::due_at(zones, units, points, pars, n);
     row(10, !bears(f, d), row(11, factor_beyond(f.factor), 0))
 }

@@ -11,9 +11,9 @@ use lib.ListN.{length, drop, getD, length-append}
 use lib.Seq.{length-take-le}
 use borrow.Author.Tests.{ltb-false, eqb-true, eqb-false, eq-eqb, not-false}
 use Rattle.fields.specs.Fields.{byteAt}
-use Rattle.due.specs.Due.{noDue, key, Asked}
-use Rattle.due.proofs.Tab.{below-or, getD-tab}
-use Rattle.due.proofs.Stands.{due-found}
+use Rattle.due_factors.specs.Due.{noDue, key, Asked}
+use Rattle.due_factors.proofs.Tab.{below-or, getD-tab}
+use Rattle.due_factors.proofs.Stands.{due-found}
 use Rattle.records.specs.Bodies.{bodyIn, headOf, zoneOf, unitOf, pointOf, parOf, factorOf}
 use Rattle.records.specs.Content.{Content, onlyIf, withRecord, noHead, noZone, noUnit, noPoint, noPar, noFactor, head, zone, unit, point, par, factorFor}
 use Rattle.records.specs.Valid.{Valid}

@@ -7,9 +7,9 @@ use native.Mathlib.Omega.{arith}
 use lib.Dec.{eqb}
 use lib.ListN.{length, getD}
 use borrow.Author.Tests.{eqb-true}
-use Rattle.due.specs.declared.Due.{Due}
-use Rattle.due.specs.Due.{dueList, noDue, key}
-use Rattle.due.proofs.Once.{due-once}
+use Rattle.due_factors.specs.declared.Due.{Due}
+use Rattle.due_factors.specs.Due.{dueList, noDue, key}
+use Rattle.due_factors.proofs.Once.{due-once}
 use Rattle.records.specs.declared.Factor.{Factor}
 use Rattle.records.specs.Content.{noFactor, bears, factorFor}
 use Rattle.records.proofs.Passes.{FactorFits}

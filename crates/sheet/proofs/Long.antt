@@ -8,8 +8,8 @@ use lib.ListN.{length, take, drop, length-drop}
 use lib.Seq.{take-all, take-nil, take-take, getD-take, length-take-le}
 use borrow.Author.Tests.{lt-ltb, le-ltb}
 use Rattle.fields.specs.Fields.{byteAt}
-use Rattle.due.proofs.Tab.{below-or}
-use Rattle.due.proofs.Runs.{length-due, per-most}
+use Rattle.due_factors.proofs.Tab.{below-or}
+use Rattle.due_factors.proofs.Runs.{length-due, per-most}
 use Rattle.records.specs.Bodies.{bodyLength, bodyIn}
 use Rattle.records.specs.Content.{Content, noContent}
 use Rattle.layout.specs.declared.Layout.{Layout}

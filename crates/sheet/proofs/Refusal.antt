@@ -8,7 +8,7 @@ use native.Mathlib.Omega.{arith}
 use lib.ListN.{length, drop, length-drop}
 use borrow.Author.Tests.{lt-ltb, le-ltb}
 use Rattle.fields.specs.Fields.{byteAt}
-use Rattle.due.proofs.Tab.{below-or}
+use Rattle.due_factors.proofs.Tab.{below-or}
 use Rattle.records.specs.Bodies.{bodyLength}
 use Rattle.records.specs.Content.{Content}
 use Rattle.records.specs.Rows.{row}

@@ -9,8 +9,8 @@ use lib.ListN.{length, drop, getD, length-drop}
 use lib.Seq.{getD-take, getD-drop}
 use borrow.Author.Tests.{eq-eqb, le-ltb, lt-leb}
 use Rattle.fields.specs.Fields.{byteAt, be16, be32, sbe16}
-use Rattle.due.specs.declared.Due.{Due}
-use Rattle.due.specs.Due.{noDue, Run}
+use Rattle.due_factors.specs.declared.Due.{Due}
+use Rattle.due_factors.specs.Due.{noDue, Run}
 use Rattle.records.specs.declared.Factor.{Factor}
 use Rattle.records.specs.Bodies.{byKind, bodyIn, factorOf}
 use Rattle.records.specs.Content.{bears}

@@ -4,8 +4,8 @@ use mathlib.Core.Bool.{Bool, false, not, _&&_, _||_, cond}
 use mathlib.Core.List.{List, [], _∷_}
 use lib.Dec.{eqb, leb, ltb}
 use lib.ListN.{length}
-use Rattle.due.specs.declared.Due.{Due}
-use Rattle.due.specs.Due.{dueList}
+use Rattle.due_factors.specs.declared.Due.{Due}
+use Rattle.due_factors.specs.Due.{dueList}
 use Rattle.records.specs.Bodies.{byKind, bodyLength, bodyIn, headOf, zoneOf, unitOf, pointOf, parOf, factorOf}
 use Rattle.records.specs.Content.{Content, noContent, withRecord}
 use Rattle.records.specs.Rows.{row, outside, repeats, headRow, zoneRow, unitRow, pointRow, parRow, factorRow}

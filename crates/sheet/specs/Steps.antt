@@ -5,7 +5,7 @@ use mathlib.Core.Bool.{false}
 use mathlib.Core.List.{List}
 use lib.ListN.{length}
 use Rattle.fields.specs.Fields.{byteAt, be32, sbe16}
-use Rattle.due.specs.declared.Due.{Due}
+use Rattle.due_factors.specs.declared.Due.{Due}
 use Rattle.records.specs.Rows.{beyond}
 use Rattle.layout.specs.declared.Layout.{Layout}
 

@@ -4,7 +4,7 @@ ghost use mathlib.Core.List.{List};
 ghost use Prim.Native.Nat.{ℕ, _+_, _*_, _≤_, _<_, _^_};
 ghost use lib.ListN.{length, drop};
 ghost use Rattle.fields.specs.Fields.{byteAt};
-ghost use Rattle.due.specs.Due.{Asked};
+ghost use Rattle.due_factors.specs.Due.{Asked};
 ghost use mathlib.Core.Bool.{true, false};
 ghost use Rattle.records.specs.Bodies.{bodyLength, bodyIn};
 ghost use Rattle.records.specs.Rows.{row};
@@ -134,7 +134,7 @@ fn good_factors(s: &[u8], at: usize, key: u32, most: usize) -> usize
     n
 }
 
-fn key_of(d: due::Due) -> u32
+fn key_of(d: due_factors::Due) -> u32
     requires { ⌜ (d .target ≤ 8) × (d .subject ≤ 4) × (d .index ≤ 256) ⌝ }
     ensures { λ r. ⌜ r ≡ keyOf d ⌝ }
 {
@@ -151,11 +151,11 @@ fn past_factors(s: &[u8], l: Layout, last: u8, at: usize) -> Reached
     if last != 6 {
         return Reached { l, at };
     }
-    if due::due_count(l.zones, l.units, l.points, l.pars) <= l.factors {
+    if due_factors::due_count(l.zones, l.units, l.points, l.pars) <= l.factors {
         return Reached { l, at };
     }
-    let most = due::due_run(l.zones, l.units, l.points, l.pars, l.factors);
-    let key = key_of(due::due_at(l.zones, l.units, l.points, l.pars, l.factors));
+    let most = due_factors::due_run(l.zones, l.units, l.points, l.pars, l.factors);
+    let key = key_of(due_factors::due_at(l.zones, l.units, l.points, l.pars, l.factors));
     let n = good_factors(s, at, key, most);
     Reached {
         l: Layout {
@@ -176,7 +176,7 @@ fn end_row(l: Layout) -> u8
     ensures { λ r. ⌜ r ≡ endRow l ⌝ }
 {
     let none = (l.zones == 0) | (l.units == 0);
-    let still_due = l.factors < due::due_count(l.zones, l.units, l.points, l.pars);
+    let still_due = l.factors < due_factors::due_count(l.zones, l.units, l.points, l.pars);
     row(12, none, row(13, still_due, 0))
 }
 
@@ -260,7 +260,7 @@ pub fn factor_at(s: &[u8], l: Layout, target: usize, subject: u8, i: usize) -> i
     requires { ⌜ (readSheet (now s) ≡ Accepted l) × Asked (l .zones) (l .units) (l .points) (l .pars) target subject i ⌝ }
     ensures { λ r. ⌜ r ≡ factorFor (contentOf (now (s .entry)) .factors) target subject (i + 1) ⌝ }
 {
-    let n = due::due_place(l.zones, l.units, l.points, l.pars, target, subject, i);
+    let n = due_factors::due_place(l.zones, l.units, l.points, l.pars, target, subject, i);
     let f = bodies::factor_of(layout::body_at(s, l, 6, n));
     f.factor as i64
 }

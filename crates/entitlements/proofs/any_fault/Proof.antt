@@ -5,7 +5,7 @@ use native.Mathlib.Omega.{arith}
 use denote.Ref.{now}
 use borrow.Author.Needs.{needs}
 use lib.ListN.{length, drop, length-drop}
-use Rattle.index.specs.Index.{Indexed}
+use Rattle.name_index.specs.Index.{Indexed}
 use Rattle.entitlements.proofs.Walk.{first-next, fault-here, fault-on, fault-end}
 use Rattle.entitlements.proofs.Records.{passes}
 use Rattle.entitlements.specs.Steps.{firstEntries}

@@ -2,7 +2,7 @@
 use native.Mathlib.Omega.{arith}
 use denote.Ref.{now}
 use borrow.Author.Needs.{needs}
-use Rattle.index.proofs.Laws.{none}
+use Rattle.name_index.proofs.Laws.{none}
 use Rattle.entitlements.specs.Entitlements.{recordLength}
 use Rattle.entitlements.proofs.faulty.Statement.{statement}
 use Rattle.entitlements.proofs.faulty.Tie as tie

@@ -4,7 +4,7 @@ use mathlib.Core.Path.{_≡_}
 use native.Mathlib.Omega.{arith}
 use lib.ListN.{length}
 use borrow.Author.Tests.{not-false}
-use Rattle.due.proofs.Tab.{below-or}
+use Rattle.due_factors.proofs.Tab.{below-or}
 use Rattle.sheet.specs.Steps.{Good}
 use borrow.Author.Needs.{needs}
 use Rattle.sheet.proofs.good_factors.Statement.{statement}

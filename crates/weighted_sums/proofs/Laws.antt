@@ -1,0 +1,104 @@
+-- The weighted sums are the figures of steps 3 to 5; how large a term can be. Assumes nothing.
+use Prim.Native.Nat.{ℕ, _+_, _*_, _≤_, _<_}
+use native.Mathlib.Nat.{le-refl, le-trans}
+use native.Mathlib.Omega.{arith}
+use mathlib.Core.Path.{_≡_, refl}
+use mathlib.Core.Bool.{Bool, true, false, cond}
+use mathlib.Core.List.{List}
+use lib.Dec.{eqb, lit<, lit≤}
+use lib.IntN.{ℤ, pos, natAbs, _-ℤ_, _*ℤ_}
+use lib.ListN.{length}
+use Rattle.integers.proofs.Linear.{zarith}
+use Rattle.integers.proofs.Tactic.{zi, zo}
+use Rattle.integers.proofs.Absolute.{abs-sub}
+use Rattle.integers.proofs.Sums.{sum-same}
+use Rattle.integers.proofs.Machine.{Op, rd, num-is, mul}
+use Rattle.due_factors.specs.Due.{Asked, howMany}
+use Rattle.layout.specs.declared.Layout.{Layout}
+use Rattle.records.specs.Content.{Content, point, par, factorFor}
+use Rattle.records.specs.Valid.{Valid}
+use Rattle.sheet.specs.declared.Outcome.the-variants.{Accepted}
+use Rattle.sheet.specs.Sheet.{readSheet, contentOf}
+use Rattle.sheet.proofs.Accepted.{valid, counts}
+use Rattle.figures.specs.Balance.{zoneLoad, output}
+use Rattle.figures.specs.Flow.{unitFactor, zoneFactor, pointFactor, parFactor, outputTerm, weightedOutput, loadTerm, weightedLoad, netSchedule, scheduleTerm, scheduleFlow, controlTerm, control}
+use Rattle.figures.proofs.Numbers.{cond-within, times-within}
+use Rattle.figures.proofs.Ranges.{output-within, zone-load-within}
+use Rattle.weighted_sums.specs.Weighted.{OnTarget, gapIn, powerOf, weightedTerm, members, weightedSum}
+
+-- the class is asked before or after the factor
+gap-times : (b : Bool) (x f : ℤ) → cond b (x *ℤ pos 10) (pos 0) *ℤ f ≡ cond b (x *ℤ f *ℤ pos 10) (pos 0)
+gap-times true x f = simp zi (simp zo (omega zarith))
+gap-times false x f = simp zi (simp zo (omega zarith))
+
+module _ (c : Content) (class target : ℕ) where
+  -- A
+  pub outputs-are : weightedSum c 1 class target ≡ weightedOutput c target
+  unfolding weightedSum members howMany weightedTerm powerOf weightedOutput outputTerm unitFactor
+  outputs-are = refl
+
+  -- N
+  pub loads-are : weightedSum c 2 class target ≡ weightedLoad c target
+  unfolding weightedSum members howMany weightedTerm powerOf weightedLoad loadTerm zoneFactor
+  loads-are = refl
+
+  pub schedules-are : weightedSum c 3 class target ≡ scheduleFlow c class target
+  unfolding weightedSum members howMany weightedTerm powerOf gapIn scheduleFlow scheduleTerm netSchedule pointFactor
+  schedules-are = sum-same _ _ (length (c .points)) (λ i l. gap-times (eqb (point c i .sort) class) (pos (point c i .import) -ℤ pos (point c i .export)) (factorFor (c .factors) target 3 (i + 1)))
+
+pub control-is : (c : Content) (class : ℕ) → weightedSum c 4 class 0 ≡ control c class
+unfolding weightedSum members howMany weightedTerm powerOf gapIn control controlTerm parFactor
+control-is c class = sum-same _ _ (length (c .pars)) (λ i l. gap-times (eqb (par c i .class) class) (par c i .actual -ℤ par c i .target) (factorFor (c .factors) 0 4 (i + 1)))
+
+gap-within : (of class : ℕ) (x y : ℤ) → natAbs x ≤ 200000 → natAbs y ≤ 200000 → natAbs (gapIn of class x y) ≤ 4000000
+unfolding gapIn
+gap-within of class x y h k = cond-within (eqb of class) ((x -ℤ y) *ℤ pos 10) (times-within (x -ℤ y) (pos 10) {a = 400000} (omega (arith, abs-sub x y)) (le-refl 10))
+
+power-within : {c : Content} → Valid c → (subject class i : ℕ) → i < members c subject → natAbs (powerOf c subject class i) ≤ 10400000
+unfolding members howMany powerOf
+power-within {c} v subject class i = by (eqb subject 1) (eqb subject 2) (eqb subject 3)
+  where
+    by : (p q r : Bool) → i < cond p (length (c .units)) (cond q (length (c .zones)) (cond r (length (c .points)) (length (c .pars)))) →
+        natAbs (cond p (output c i) (cond q (zoneLoad c i) (cond r (gapIn (point c i .sort) class (pos (point c i .import)) (pos (point c i .export))) (gapIn (par c i .class) class (par c i .actual) (par c i .target))))) ≤ 10400000
+    by true q r l = le-trans (output-within v i l) (lit≤ tt)
+    by false true r l = zone-load-within v i l
+    by false false true l = let p = v .point-fits i l in le-trans (gap-within (point c i .sort) class (pos (point c i .import)) (pos (point c i .export)) (p .import) (p .export)) (lit≤ tt)
+    by false false false l = let p = v .par-fits i l in le-trans (gap-within (par c i .class) class (par c i .actual) (par c i .target) (p .actual) (p .target)) (lit≤ tt)
+
+-- what the layout of an accepted sheet counts is what its content has
+module _ (s : List ℕ) (l : Layout) (e : readSheet s ≡ Accepted l) where
+  pub members-are : (subject : ℕ) → howMany (l .zones) (l .units) (l .points) (l .pars) subject ≡ members (contentOf s) subject
+  unfolding members
+  members-are subject = rw (counts s l e .zones, counts s l e .units, counts s l e .points, counts s l e .pars)
+
+  pub members-most : (subject : ℕ) → members (contentOf s) subject ≤ 256
+  unfolding members howMany
+  members-most subject = by (eqb subject 1) (eqb subject 2) (eqb subject 3)
+    where
+      v : Valid (contentOf s)
+      v = valid s l e
+
+      by : (p q r : Bool) → cond p (length (contentOf s .units)) (cond q (length (contentOf s .zones)) (cond r (length (contentOf s .points)) (length (contentOf s .pars)))) ≤ 256
+      by true q r = v .units-most
+      by false true r = omega (arith, v .zones-most)
+      by false false true = omega (arith, v .points-most)
+      by false false false = omega (arith, v .pars-most)
+
+  pub asked : {target subject : ℕ} → OnTarget (l .pars) target subject → (i : ℕ) → i < howMany (l .zones) (l .units) (l .points) (l .pars) subject →
+      Asked (l .zones) (l .units) (l .points) (l .pars) target subject i
+  asked o i h = record { known = o .known; low = o .low; high = o .high; par = o .par; index = h }
+
+  module _ (subject class target i : ℕ) (a : Asked (l .zones) (l .units) (l .points) (l .pars) target subject i) where
+    factor-within : natAbs (factorFor (contentOf s .factors) target subject (i + 1)) ≤ 10000
+    factor-within = valid s l e .factor-fits target subject i (rw (counts s l e .zones, counts s l e .units, counts s l e .points, counts s l e .pars) at a)
+
+    -- p is the power, f the factor, as the calls returned them
+    pub term : (p f : ℤ) → p ≡ powerOf (contentOf s) subject class i → f ≡ factorFor (contentOf s .factors) target subject (i + 1) →
+        Op (rd p *ℤ rd f) (weightedTerm (contentOf s) subject class target i) 104000000000
+    unfolding weightedTerm
+    term p f ep ef =
+        mul (num-is p _ 10400000 ep (power-within (valid s l e) subject class i (rw (members-are subject) at (a .index))) (lit< tt))
+        (num-is f _ 10000 ef factor-within (lit< tt)) (lit< tt)
+
+    pub term-within : natAbs (weightedTerm (contentOf s) subject class target i) ≤ 104000000000
+    term-within = term _ _ refl refl .num .abs

@@ -1,0 +1,137 @@
+// The weighted sums of steps 3 to 5: what each record of a subject brings, times its factor on a target.
+ghost use mathlib.Core.Path.{_≡_};
+ghost use Prim.Native.Nat.{_<_, _≤_};
+ghost use lib.IntN.{natAbs};
+ghost use Rattle.due_factors.specs.Due.{Asked, howMany};
+ghost use Rattle.sheet.specs.Sheet.{readSheet, contentOf};
+ghost use Rattle.sheet.specs.declared.Outcome.the-variants.{Accepted};
+ghost use Rattle.weighted_sums.specs.Weighted.{Given, OnTarget, gapIn, powerOf, weightedTerm, weightedSum};
+
+// A factor's subjects.
+pub const UNIT: u8 = 1;
+
+pub const ZONE: u8 = 2;
+
+pub const POINT: u8 = 3;
+
+pub const PAR: u8 = 4;
+
+// A point's types, and a PAR's classes.
+pub const COMMON: u8 = 1;
+
+pub const NON_COMMON: u8 = 2;
+
+fn how_many(l: layout::Layout, subject: u8) -> usize
+    ensures { λ r. ⌜ r ≡ howMany (l .zones) (l .units) (l .points) (l .pars) subject ⌝ }
+{
+    if subject == UNIT {
+        return l.units;
+    }
+    if subject == ZONE {
+        return l.zones;
+    }
+    if subject == POINT {
+        return l.points;
+    }
+    l.pars
+}
+
+// Ten times the difference of a record's two powers, if the record is of the class asked.
+fn gap_in(of: u8, class: u8, plus: i64, minus: i64) -> i64
+    requires { ⌜ (natAbs plus ≤ 200000) × (natAbs minus ≤ 200000) ⌝ }
+    ensures { λ r. ⌜ r ≡ gapIn of class plus minus ⌝ }
+{
+    if of != class {
+        return 0;
+    }
+    (plus - minus) * 10
+}
+
+fn unit_power(s: &[u8], l: layout::Layout, class: u8, i: usize) -> i64
+    requires { ⌜ (readSheet (now s) ≡ Accepted l) × (i < l .units) ⌝ }
+    ensures { λ r. ⌜ r ≡ powerOf (contentOf (now (s .entry))) 1 class i ⌝ }
+{
+    let u = sheet::unit_at(s, l, i);
+    u.output as i64
+}
+
+fn point_power(s: &[u8], l: layout::Layout, class: u8, i: usize) -> i64
+    requires { ⌜ (readSheet (now s) ≡ Accepted l) × (i < l .points) ⌝ }
+    ensures { λ r. ⌜ r ≡ powerOf (contentOf (now (s .entry))) 3 class i ⌝ }
+{
+    let p = sheet::point_at(s, l, i);
+    gap_in(p.sort, class, p.import as i64, p.export as i64)
+}
+
+fn par_power(s: &[u8], l: layout::Layout, class: u8, i: usize) -> i64
+    requires { ⌜ (readSheet (now s) ≡ Accepted l) × (i < l .pars) ⌝ }
+    ensures { λ r. ⌜ r ≡ powerOf (contentOf (now (s .entry))) 4 class i ⌝ }
+{
+    let p = sheet::par_at(s, l, i);
+    gap_in(p.class, class, p.actual as i64, p.target as i64)
+}
+
+fn power_of<'a>(
+    s: &[u8],
+    l: layout::Layout,
+    plus: &'a [u64; 33],
+    minus: &'a [u64; 33],
+    subject: u8,
+    class: u8,
+    i: usize,
+) -> i64
+    requires { ⌜ Given (now s) l (now plus) (now minus) × (i < howMany (l .zones) (l .units) (l .points) (l .pars) subject) ⌝ }
+    ensures { λ r. ⌜ r ≡ powerOf (contentOf (now (s .entry))) subject class i ⌝ }
+{
+    if subject == UNIT {
+        return unit_power(s, l, class, i);
+    }
+    if subject == ZONE {
+        return balance::net_at(plus, minus, i);
+    }
+    if subject == POINT {
+        return point_power(s, l, class, i);
+    }
+    par_power(s, l, class, i)
+}
+
+fn term_of<'a>(
+    s: &[u8],
+    l: layout::Layout,
+    plus: &'a [u64; 33],
+    minus: &'a [u64; 33],
+    subject: u8,
+    class: u8,
+    target: usize,
+    i: usize,
+) -> i64
+    requires { ⌜ Given (now s) l (now plus) (now minus) × Asked (l .zones) (l .units) (l .points) (l .pars) target subject i ⌝ }
+    ensures { λ r. ⌜ r ≡ weightedTerm (contentOf (now (s .entry))) subject class target i ⌝ }
+{
+    let power = power_of(s, l, plus, minus, subject, class, i);
+    let factor = sheet::factor_at(s, l, target, subject, i);
+    power * factor
+}
+
+// Over all records of a subject; where these are points or PARs, over those of the class.
+pub fn weighted<'a>(
+    s: &[u8],
+    l: layout::Layout,
+    plus: &'a [u64; 33],
+    minus: &'a [u64; 33],
+    subject: u8,
+    class: u8,
+    target: usize,
+) -> i64
+    requires { ⌜ Given (now s) l (now plus) (now minus) × OnTarget (l .pars) target subject ⌝ }
+    ensures { λ r. ⌜ r ≡ weightedSum (contentOf (now (s .entry))) subject class target ⌝ }
+{
+    let n = how_many(l, subject);
+    let mut sum: i64 = 0;
+    let mut i = 0;
+    while i < n {
+        sum += term_of(s, l, plus, minus, subject, class, target, i);
+        i += 1;
+    }
+    sum
+}
