@@ -1,3 +1,4 @@
+pub mod Codes
 pub mod Content
 pub mod Valid
 pub mod Bodies

@@ -1,6 +1,25 @@
 // The records of an interval sheet (document 01, 'The interval sheet').
 
-// Kind 1. monitoring_rto: 1 NYISO, 2 PJM. Prices in cents per MWh.
+// The Monitoring RTO.
+pub const NYISO: u8 = 1;
+
+pub const PJM: u8 = 2;
+
+// A point's type, a PAR's class.
+pub const COMMON: u8 = 1;
+
+pub const NON_COMMON: u8 = 2;
+
+// A factor's subject.
+pub const UNIT: u8 = 1;
+
+pub const ZONE: u8 = 2;
+
+pub const POINT: u8 = 3;
+
+pub const PAR: u8 = 4;
+
+// Kind 1. Prices in cents per MWh.
 pub struct Head {
     pub name: [u8; 16],
     pub monitoring_rto: u8,
@@ -29,7 +48,7 @@ pub enum Place {
     Line(u8),
 }
 
-// Kind 4. sort: 1 common, 2 non-common.
+// Kind 4. sort: its type.
 pub struct Point {
     pub name: [u8; 16],
     pub sort: u8,
@@ -38,7 +57,7 @@ pub struct Point {
     pub export: u32,
 }
 
-// Kind 5. class: 1 common, 2 non-common.
+// Kind 5.
 pub struct Par {
     pub name: [u8; 16],
     pub class: u8,
@@ -46,7 +65,7 @@ pub struct Par {
     pub target: i32,
 }
 
-// Kind 6. target: 0 the flowgate, k the k-th PAR. subject: 1 unit, 2 zone, 3 point, 4 PAR. Factors are ten-thousandths.
+// Kind 6. target: 0 the flowgate, k the k-th PAR. Factors are ten-thousandths.
 pub struct Factor {
     pub target: u8,
     pub subject: u8,
