@@ -5,6 +5,7 @@ told here is advice: the library alone decides. Nothing is told exactly where it
 nothing (a test compares the two).
 """
 
+from bisect import bisect
 from collections import Counter
 from itertools import groupby
 from typing import NamedTuple
@@ -154,6 +155,8 @@ class Check:
 
     def factors(self):
         """Factors that are not due, stand twice or out of order, and those that are missing."""
+        if any(self.counts[kind.word] > kind.most > 1 for kind in BY_NUMBER.values()):
+            return
         due = list(factors_due(self.counts))
         places = {key: place for place, key in enumerate(due)}
         seen, highest = {}, -1
@@ -178,13 +181,14 @@ class Check:
     def missing(self, due, seen):
         """Runs of factors that are due and not there, told where the next one stands."""
         absent = [place for place in range(len(due)) if place not in seen]
+        present = sorted(seen)
         for _, run in groupby(enumerate(absent), lambda pair: (pair[1] - pair[0], due[pair[1]][:2])):
             places = [place for _, place in run]
             first, last = due[places[0]], due[places[-1]]
             words = factor_words(first) + (f" to {last[2]}" if last != first else "")
-            behind = next((seen[place] for place in range(places[-1], len(due)) if place in seen), None)
-            if behind:
-                self.tell(behind, 10, f"before it the factor {words} is missing")
+            after = bisect(present, places[-1])
+            if after < len(present):
+                self.tell(seen[present[after]], 10, f"before it the factor {words} is missing")
             else:
                 self.tell_end(13, f"the factor {words} is missing")
 

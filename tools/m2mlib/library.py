@@ -6,7 +6,7 @@ from typing import NamedTuple
 from . import build
 from .trouble import Trouble
 
-LONGEST_LISTING = 288  # docs/FORMAT.md, 'The listing'
+ROOM = 394  # include/m2m.h: no listing is longer
 
 
 class Figure(NamedTuple):
@@ -45,7 +45,7 @@ FIGURES = (
 
 
 class Statement(ctypes.Structure):
-    """crates/statement: a refusal's number or 0, the flowgate's name and the figures in order."""
+    """A refusal's number or 0, the flowgate's name and the figures in order (include/m2m.h)."""
 
     _fields_ = [
         ("refusal", ctypes.c_uint8),
@@ -54,8 +54,14 @@ class Statement(ctypes.Structure):
     ]
 
 
-class ReadAnswer(ctypes.Structure):
-    """crates/exports: a refusal's number and the offending record's place, or the counts of records."""
+class Printed(ctypes.Structure):
+    """A statement and how many bytes of the output buffer were printed."""
+
+    _fields_ = [("statement", Statement), ("length", ctypes.c_size_t)]
+
+
+class Sheet(ctypes.Structure):
+    """What the reader says: a refusal's number and the offending record's place, or the counts of records."""
 
     _fields_ = [
         ("refusal", ctypes.c_uint8),
@@ -70,24 +76,22 @@ class Library:
         path = build.library()
         try:
             library = ctypes.CDLL(path)
-            self.settle_into, self.read_sheet = library.m2m_settle_into, library.m2m_read
+            self.report, self.read = library.m2m_report, library.m2m_read
         except (OSError, AttributeError) as error:
             raise Trouble(f"{path}: {error}") from None
         part = [ctypes.c_char_p, ctypes.c_size_t]
-        self.settle_into.argtypes, self.settle_into.restype = part * 3, Statement
-        self.read_sheet.argtypes, self.read_sheet.restype = part, ReadAnswer
+        self.report.argtypes, self.report.restype = part * 3, Printed
+        self.read.argtypes, self.read.restype = part, Sheet
 
     def settle(self, sheet, entitlements):
         """The statement of an interval and its listing; a refusal has its one line."""
-        out = ctypes.create_string_buffer(LONGEST_LISTING)
-        statement = self.settle_into(
-            sheet, len(sheet), entitlements, len(entitlements), out, LONGEST_LISTING
-        )
-        if statement.refusal:
-            return statement, b"refused %d\n" % statement.refusal
-        return statement, out.value
+        out = ctypes.create_string_buffer(ROOM)
+        printed = self.report(sheet, len(sheet), entitlements, len(entitlements), out, ROOM)
+        if printed.statement.refusal:
+            return printed.statement, b"refused %d\n" % printed.statement.refusal
+        return printed.statement, out.raw[: printed.length]
 
     def place(self, sheet):
         """Where the reader refuses a sheet, or None."""
-        answer = self.read_sheet(sheet, len(sheet))
+        answer = self.read(sheet, len(sheet))
         return answer.place if answer.refusal else None

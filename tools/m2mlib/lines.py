@@ -23,10 +23,10 @@ DEEPEST = 40
 LARGEST = 1 << 64
 
 
-def lines_of(data):
+def lines_of(name, data):
     """The lines of a text: ended by line feed, carriage return or both; a byte order mark is no part of it."""
     if data[:2] in (b"\xff\xfe", b"\xfe\xff"):
-        raise Fault("the text is UTF-16: save it as UTF-8")
+        raise Fault(f"{name} is UTF-16: save it as UTF-8")
     text = data.removeprefix(b"\xef\xbb\xbf").decode("latin-1")
     return text.replace("\r\n", "\n").replace("\r", "\n").split("\n")
 

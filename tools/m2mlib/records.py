@@ -5,6 +5,7 @@ sizes here and stand nowhere else; docs/FORMAT.md has them for a reader, and a t
 """
 
 from dataclasses import dataclass
+from functools import cached_property
 from itertools import accumulate
 
 RTOS = {"NYISO": 1, "PJM": 2}
@@ -30,16 +31,16 @@ class Field:
     wanted: str = COUNT
     codes: dict = None
 
-    @property
+    @cached_property
     def label(self):
         return self.form.rpartition(" ")[0]
 
-    @property
+    @cached_property
     def value(self):
         """NAME, CODE, ZONE, PLACE or N."""
         return "CODE" if self.codes else self.form.rpartition(" ")[2]
 
-    @property
+    @cached_property
     def signed(self):
         return self.low < 0
 
@@ -53,12 +54,16 @@ class Kind:
     most: int  # records of this kind; 0: as many as are due
     fields: tuple
 
-    def __post_init__(self):
-        ends = list(accumulate(field.size for field in self.fields))
-        object.__setattr__(self, "length", 1 + ends[-1])
-        object.__setattr__(self, "offsets", tuple([1] + [1 + end for end in ends[:-1]]))
+    @cached_property
+    def offsets(self):
+        """Where each field begins, counted from the kind byte, and where the record ends."""
+        return tuple(accumulate((field.size for field in self.fields), initial=1))
 
-    @property
+    @cached_property
+    def length(self):
+        return self.offsets[-1]
+
+    @cached_property
     def form(self):
         """The form of a line; both that a point has, parted by a line feed."""
         line = " ".join([self.word] + [field.form for field in self.fields])
@@ -66,7 +71,7 @@ class Kind:
             return line
         return line.replace("PLACE", "proxy") + "\n" + line.replace("PLACE", "line ZONE")
 
-    @property
+    @cached_property
     def named(self):
         return self.fields[0].value == "NAME"
 

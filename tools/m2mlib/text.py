@@ -2,6 +2,7 @@
 
 import os
 from collections import Counter
+from itertools import islice
 from typing import NamedTuple
 
 from .files import ROOT, read_file
@@ -73,7 +74,7 @@ class Text:
 
     def numbered(self, name, data):
         """The lines of a text that hold words."""
-        for k, text in enumerate(lines_of(data), 1):
+        for k, text in enumerate(lines_of(name, data), 1):
             line = Line(name, k, text, [])
             try:
                 words = split_words(text)
@@ -175,7 +176,7 @@ class Text:
     def due(self, line, variables):
         (value,) = form(line.words[1:], 1, "due")
         counts = self.counts()
-        for target, subject, index in list(factors_due(counts))[counts["factor"] :]:
+        for target, subject, index in islice(factors_due(counts), counts["factor"], None):
             self.count_step()
             known = {**variables, "target": target, "subject": subject, "index": index}
             self.factor(target, subject, index, fill_in(value, known), line)
@@ -199,6 +200,8 @@ class Text:
     def do_include(self, words, line, variables):
         (path,) = form(words, 1)
         path = path[1:-1] if path.startswith('"') else path
+        if "\0" in path:
+            raise Fault("a path holds no zero byte")
         path = included(os.fsdecode(path.encode("latin-1")), self.open[-1] if self.open else "")
         if path in self.open or len(self.open) > DEEPEST:
             raise Fault("the text includes itself" if path in self.open else "includes nested too deep")
