@@ -163,6 +163,18 @@ fn open(name: &[u8]) -> i32 {
     -1
 }
 
+// The file name that argument i is: how many bytes stand at the front of the buffer. An argument that is too long fills the
+// buffer; with 4,096 bytes that is too long for a path too, and opening it fails with this reason.
+pub fn argument(i: usize, name: &mut [u8]) -> usize
+    ensures { λ r. ⌜ Counts r (now (name .exit)) ⌝ }
+{
+    let n = os::arg(i, name);
+    if os::errno() == libc::ENAMETOOLONG {
+        return name.len();
+    }
+    n
+}
+
 // Reads the file of this name: how many bytes stand at the front of the buffer. One that can't be opened or read whole
 // counts as empty, and `program: name: why` is told.
 pub fn load(program: &[u8], name: &[u8], buf: &mut [u8]) -> usize
