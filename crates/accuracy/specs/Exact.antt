@@ -1,13 +1,14 @@
--- Document 01, 'From balance to flow' and 'The payment', with no rounding anywhere. Only whole sums of the sheet occur here. Assumes nothing.
+-- Document 01, 'From balance to flow' and 'The payment', with no rounding anywhere. Only whole sums of the sheet occur here.
 use Prim.Native.Nat.{ℕ, _+_}
 use mathlib.Core.Bool.{cond}
 use lib.Dec.{eqb}
 use lib.IntN.{ℤ, pos, _*ℤ_}
 use lib.ListN.{length}
 use Rattle.records.specs.declared.Head.{Head}
+use Rattle.records.specs.Codes.{common, noncommon}
 use Rattle.records.specs.Content.{Content, head, par}
 use Rattle.figures.specs.Balance.{netLoad, netGeneration, finalGeneration, grossOutput}
-use Rattle.figures.specs.Flow.{common, noncommon, weightedOutput, weightedLoad, parallel, shadow, parFactor, control, nyisoMonitors}
+use Rattle.figures.specs.Flow.{weightedOutput, weightedLoad, parallel, shadow, parFactor, control, nyisoMonitors}
 use Rattle.figures.specs.Payment.{inWatts, price}
 use Rattle.accuracy.specs.Fraction.{Fraction, entire, _⊕_, _⊖_, _⊗_, _⊘_, sumOf}
 
@@ -32,12 +33,8 @@ exactNonCommonRedirect c = cond (nyisoMonitors c) (entire (pos 0)) (exactRedirec
 unfoldable pub exactMarketFlow : Content → Fraction
 exactMarketFlow c = exactGenerationToLoad c 0 ⊕ entire (parallel c 0) ⊕ entire (shadow c 0) ⊖ exactRedirect c common ⊖ exactNonCommonRedirect c
 
--- the flow that is paid on, at an entitlement: the market flow, whatever the entitlement
-unfoldable pub exactSettlementFlow : Content → ℤ → Fraction
-exactSettlementFlow c entitlement = exactMarketFlow c
-
 unfoldable pub exactDifference : Content → ℤ → Fraction
-exactDifference c entitlement = exactSettlementFlow c entitlement ⊖ entire (inWatts entitlement)
+exactDifference c entitlement = exactMarketFlow c ⊖ entire (inWatts entitlement)
 
 -- the exact difference's own sign decides: with a denominator above zero it is the numerator's
 unfoldable pub exactPrice : Head → Fraction → ℤ
