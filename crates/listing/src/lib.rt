@@ -6,7 +6,7 @@ use lines::put_payment;
 use lines::put_refusal;
 use statement::Statement;
 use statement::refused;
-use writers::put_front;
+use writers::put;
 ghost use mathlib.Core.Path.{_≡_};
 ghost use Prim.Native.Nat.{_+_, _*_, _≤_};
 ghost use lib.ListN.{length};
@@ -106,7 +106,7 @@ pub fn print(s: Statement, out: &mut [u8]) -> Printed
     }
     Printed {
         statement: s,
-        length: put_front(&scratch[from..], out),
+        length: put(&scratch[from..], out),
     }
 }
 
@@ -116,5 +116,5 @@ pub fn show(s: Statement, out: &mut [u8; ROOM]) -> usize
 {
     let mut scratch = [0u8; ROOM];
     let from = put_shown(s, &mut scratch);
-    put_front(&scratch[from..], out)
+    put(&scratch[from..], out)
 }

@@ -115,7 +115,7 @@ pub fn put_name(name: &[u8], out: &mut [u8], at: usize) -> usize
 }
 
 // All of the bytes at the front of the buffer. Returns how many these are.
-pub fn put_front(bytes: &[u8], out: &mut [u8]) -> usize
+pub fn put(bytes: &[u8], out: &mut [u8]) -> usize
     requires { ⌜ length (now bytes) ≤ length (now out) ⌝ }
     ensures { λ r. ⌜ Wrote (now (bytes .entry)) (now (out .entry)) (now (out .exit)) r ⌝ }
 {

@@ -7,7 +7,7 @@ use borrow.Author.Needs.{needs}
 use lib.ListN.{length, take, drop, length-replicate}
 use Rattle.statement.specs.declared.Statement.{Statement}
 use Rattle.writers.proofs.Prepending.{whole}
-use Rattle.writers.proofs.Writing.{renamed-front}
+use Rattle.writers.proofs.Writing.{renamed}
 use Rattle.listing.specs.Listing.{listing}
 use Rattle.listing.proofs.Printing.{refused-before, too-short, fits}
 use Rattle.listing.proofs.print.Statement.{statement}
@@ -47,17 +47,17 @@ returns-2 c =
     let e = p .put-listing .ensures .count in
     rw (c .refused .ensures) (too-short (s p) (out p) (accepted p) (omega arith))
 
-sub-put-front : tie.Need-sub-put-front
-sub-put-front c = search needs
+sub-put : tie.Need-sub-put
+sub-put c = search needs
 
-part-put-front-start : tie.Need-part-put-front-start
-part-put-front-start c = search needs
+part-put-start : tie.Need-part-put-start
+part-put-start c = search needs
 
-part-put-front-end : tie.Need-part-put-front-end
-part-put-front-end c = search needs
+part-put-end : tie.Need-part-put-end
+part-put-end c = search needs
 
-put-front-requires : tie.Need-put-front-requires
-put-front-requires c κs = search needs
+put-requires : tie.Need-put-requires
+put-requires c κs = search needs
 
 same-length : tie.Need-same-length
 same-length c = search needs
@@ -66,7 +66,7 @@ returns-3 : tie.Need-returns-3
 returns-3 c =
     let p = c .before .before .before .before .before .before .before .before in
     let e = p .put-listing .ensures .count in
-    fits (s p) (out p) (accepted p) (omega arith) (renamed-front (lines p) (c .before .before .put-front .ensures))
+    fits (s p) (out p) (accepted p) (omega arith) (renamed (lines p) (c .before .before .put .ensures))
 
 pub print-spec : {M : Type 1} → statement M
 print-spec =
@@ -78,9 +78,9 @@ print-spec =
     sub-if2
     refused-requires
     returns-2
-    sub-put-front
-    part-put-front-start
-    part-put-front-end
-    put-front-requires
+    sub-put
+    part-put-start
+    part-put-end
+    put-requires
     same-length
     returns-3)

@@ -4,7 +4,7 @@ use native.Mathlib.Omega.{arith}
 use borrow.Author.Needs.{needs}
 use lib.ListN.{length-replicate}
 use Rattle.writers.proofs.Prepending.{whole}
-use Rattle.writers.proofs.Writing.{renamed-front}
+use Rattle.writers.proofs.Writing.{renamed}
 use Rattle.listing.proofs.show.Statement.{statement}
 use Rattle.listing.proofs.show.Tie as tie
 
@@ -14,22 +14,22 @@ slice-aggregate-put-shown c = search needs
 put-shown-requires : tie.Need-put-shown-requires
 put-shown-requires c κs = search needs
 
-sub-put-front : tie.Need-sub-put-front
-sub-put-front c = search needs
+sub-put : tie.Need-sub-put
+sub-put c = search needs
 
-part-put-front-start : tie.Need-part-put-front-start
-part-put-front-start c = search needs
+part-put-start : tie.Need-part-put-start
+part-put-start c = search needs
 
-part-put-front-end : tie.Need-part-put-front-end
-part-put-front-end c = search needs
+part-put-end : tie.Need-part-put-end
+part-put-end c = search needs
 
-put-front-requires : tie.Need-put-front-requires
-put-front-requires c κs = search needs
+put-requires : tie.Need-put-requires
+put-requires c κs = search needs
 
 returns : tie.Need-returns
 returns c =
     let p = c .before .before .before .before .before in
-    renamed-front (whole (p .put-shown .ensures) (omega (arith, length-replicate {A = ℕ} 495 0))) (c .put-front .ensures)
+    renamed (whole (p .put-shown .ensures) (omega (arith, length-replicate {A = ℕ} 495 0))) (c .put .ensures)
 
 pub show-spec : {M : Type 1} → statement M
 show-spec =
@@ -37,8 +37,8 @@ show-spec =
     (tie.spec
     slice-aggregate-put-shown
     put-shown-requires
-    sub-put-front
-    part-put-front-start
-    part-put-front-end
-    put-front-requires
+    sub-put
+    part-put-start
+    part-put-end
+    put-requires
     returns)
