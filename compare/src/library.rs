@@ -2,18 +2,18 @@
 
 use second::names::NameField;
 
-use crate::sides::{EntitlementAnswer, Figures, ReadAnswer, Side};
+use crate::sides::{EntitlementAnswer, Figures, Printed, ReadAnswer, Side};
 
 unsafe extern "C" {
     fn m2m_settle(sheet: *const u8, sheet_len: usize, list: *const u8, list_len: usize) -> Figures;
-    fn m2m_settle_into(
+    fn m2m_report(
         sheet: *const u8,
         sheet_len: usize,
         list: *const u8,
         list_len: usize,
         out: *mut u8,
         out_len: usize,
-    ) -> Figures;
+    ) -> Printed;
     fn m2m_read(sheet: *const u8, sheet_len: usize) -> ReadAnswer;
     fn m2m_entitlement(
         list: *const u8,
@@ -33,9 +33,9 @@ impl Side for Library {
         unsafe { m2m_settle(sheet.as_ptr(), sheet.len(), list.as_ptr(), list.len()) }
     }
 
-    fn settle_into(&self, sheet: &[u8], list: &[u8], out: &mut [u8]) -> Figures {
+    fn report(&self, sheet: &[u8], list: &[u8], out: &mut [u8]) -> Printed {
         unsafe {
-            m2m_settle_into(
+            m2m_report(
                 sheet.as_ptr(),
                 sheet.len(),
                 list.as_ptr(),

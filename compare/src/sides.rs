@@ -34,6 +34,14 @@ impl Figures {
     }
 }
 
+/// The statement after row 23, and the listing's length, 0 with a refusal.
+#[derive(Clone, Copy, Debug, Default, PartialEq, Eq)]
+#[repr(C)]
+pub struct Printed {
+    pub figures: Figures,
+    pub length: usize,
+}
+
 /// Rows 1 to 13: the counts of a sheet that passes, or the number and place of the
 /// offending record and zeros.
 #[derive(Clone, Copy, Debug, Default, PartialEq, Eq)]
@@ -58,7 +66,7 @@ pub struct EntitlementAnswer {
 
 pub trait Side {
     fn settle(&self, sheet: &[u8], list: &[u8]) -> Figures;
-    fn settle_into(&self, sheet: &[u8], list: &[u8], out: &mut [u8]) -> Figures;
+    fn report(&self, sheet: &[u8], list: &[u8], out: &mut [u8]) -> Printed;
     fn read(&self, sheet: &[u8]) -> ReadAnswer;
     fn entitlement(&self, list: &[u8], name: &NameField) -> EntitlementAnswer;
 }
@@ -104,7 +112,7 @@ macro_rules! reference {
                         payment,
                     }) => $crate::sides::Figures {
                         refusal: 0,
-                        name: *name.field(),
+                        name: name.field(),
                         gtl: flow.generation_to_load.flow.0,
                         first_remainder: flow.generation_to_load.first_remainder.0,
                         second_remainder: flow.generation_to_load.second_remainder.0,
@@ -129,13 +137,12 @@ macro_rules! reference {
                 Self::figures($second::settle(sheet, list))
             }
 
-            fn settle_into(
-                &self,
-                sheet: &[u8],
-                list: &[u8],
-                out: &mut [u8],
-            ) -> $crate::sides::Figures {
-                Self::figures($second::settle_into(sheet, list, out))
+            fn report(&self, sheet: &[u8], list: &[u8], out: &mut [u8]) -> $crate::sides::Printed {
+                let answer = $second::report(sheet, list, out);
+                $crate::sides::Printed {
+                    figures: Self::figures(answer.map(|(statement, _)| statement)),
+                    length: answer.map_or(0, |(_, length)| length),
+                }
             }
 
             fn read(&self, sheet: &[u8]) -> $crate::sides::ReadAnswer {

@@ -15,17 +15,16 @@ pub enum Kind {
 }
 
 impl Kind {
-    pub const ALL: [Kind; 6] = [
-        Kind::Head,
-        Kind::Zone,
-        Kind::Unit,
-        Kind::Point,
-        Kind::Par,
-        Kind::Factor,
-    ];
-
     pub fn of(byte: u8) -> Option<Kind> {
-        Kind::ALL.into_iter().find(|kind| *kind as u8 == byte)
+        Some(match byte {
+            1 => Kind::Head,
+            2 => Kind::Zone,
+            3 => Kind::Unit,
+            4 => Kind::Point,
+            5 => Kind::Par,
+            6 => Kind::Factor,
+            _ => return None,
+        })
     }
 
     /// How many bytes follow the kind byte.

@@ -19,7 +19,7 @@ pub mod settle;
 pub mod sheet;
 pub mod units;
 
-pub use listing::{listing, printed, settle_into};
+pub use listing::{listing, printed, report};
 pub use names::Name;
 pub use refusal::Refusal;
 pub use settle::{Statement, settle};

@@ -2,6 +2,7 @@
 
 use std::io::{self, Write};
 
+use crate::names::bearing;
 use crate::refusal::Refusal;
 use crate::settle::{Statement, settle};
 
@@ -9,16 +10,16 @@ use crate::settle::{Statement, settle};
 pub const LONGEST_LISTING: usize = 288;
 
 /// Settles one interval and prints its listing at the front of the buffer: rows 1
-/// to 23. On a refusal the buffer stays as before.
-pub fn settle_into(sheet: &[u8], list: &[u8], out: &mut [u8]) -> Result<Statement, Refusal> {
+/// to 23. The statement, and the listing's length. On a refusal the buffer stays as
+/// before.
+pub fn report(sheet: &[u8], list: &[u8], out: &mut [u8]) -> Result<(Statement, usize), Refusal> {
     let statement = settle(sheet, list)?;
     let mut room = [0; LONGEST_LISTING];
     let listing = print(&statement, &mut room);
     let front = out.get_mut(..listing.len());
-    front
-        .ok_or(Refusal::BufferTooShort)?
-        .copy_from_slice(listing);
-    Ok(statement)
+    let front = front.ok_or(Refusal::BufferTooShort)?;
+    front.copy_from_slice(listing);
+    Ok((statement, listing.len()))
 }
 
 pub fn listing(statement: &Statement) -> Vec<u8> {
@@ -48,7 +49,7 @@ fn write_lines(statement: &Statement, out: &mut impl Write) -> io::Result<()> {
         payment,
     } = statement;
     write!(out, "flowgate ")?;
-    for byte in name.bearing() {
+    for byte in bearing(&name.field()) {
         write!(out, "{byte:02x}")?;
     }
     let gtl = flow.generation_to_load;

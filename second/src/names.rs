@@ -7,34 +7,34 @@ use std::hash::{BuildHasherDefault, Hasher};
 /// The bytes of a name's field, well formed or not.
 pub type NameField = [u8; 16];
 
-/// 1 to 16 non-zero bytes, filled with zero bytes on the right.
+/// 1 to 16 non-zero bytes, filled with zero bytes on the right; as one big-endian
+/// number.
 #[derive(Clone, Copy, PartialEq, Eq)]
-pub struct Name(NameField);
+pub struct Name(u128);
 
 impl Name {
     /// None where row 6 is met.
     pub fn of(field: NameField) -> Option<Self> {
-        let name = Name(field);
-        let length = name.bearing().len();
+        let length = bearing(&field).len();
         let filled = field[length..].iter().all(|byte| *byte == 0);
-        (length > 0 && filled).then_some(name)
+        (length > 0 && filled).then_some(Name(u128::from_be_bytes(field)))
     }
 
-    pub fn field(&self) -> &NameField {
-        &self.0
-    }
-
-    /// The name without its filling.
-    pub fn bearing(&self) -> &[u8] {
-        let length = self.0.iter().position(|byte| *byte == 0);
-        &self.0[..length.unwrap_or(self.0.len())]
+    pub fn field(self) -> NameField {
+        self.0.to_be_bytes()
     }
 }
 
 impl fmt::Debug for Name {
     fn fmt(&self, f: &mut fmt::Formatter) -> fmt::Result {
-        write!(f, "\"{}\"", self.bearing().escape_ascii())
+        write!(f, "\"{}\"", bearing(&self.field()).escape_ascii())
     }
+}
+
+/// The name without its filling.
+pub fn bearing(field: &NameField) -> &[u8] {
+    let length = field.iter().position(|byte| *byte == 0);
+    &field[..length.unwrap_or(field.len())]
 }
 
 /// Up to this many names, looking through them all beats hashing.
@@ -61,8 +61,7 @@ impl NamesSeen {
     }
 
     /// Notes the name; false if it was noted before.
-    pub fn note(&mut self, name: Name) -> bool {
-        let name = u128::from_be_bytes(name.0);
+    pub fn note(&mut self, Name(name): Name) -> bool {
         if self.count == FEW && self.many.is_empty() {
             self.many.reserve(self.most);
             self.many.extend(self.few);
@@ -129,7 +128,7 @@ mod tests {
     #[test]
     fn repeats_are_found_among_few_and_among_many() {
         let mut seen = NamesSeen::expecting(200);
-        let name = |k: u8| Name([k; 16]);
+        let name = |k: u8| Name::of([k; 16]).unwrap();
         assert!((1..=200).all(|k| seen.note(name(k))));
         assert!((1..=200).all(|k| !seen.note(name(k))));
         seen.clear();

@@ -194,7 +194,7 @@ impl<'a> Reader<'a> {
 
     fn factor(&mut self, mut fields: Fields) -> Result<(), Refusal> {
         let due = self.due.get_or_insert_with(|| Due::by(&self.sheet));
-        if due.next() != Some(fields.bytes()) {
+        if due.next().is_none_or(|due| due != fields.bytes()) {
             return Err(Refusal::FactorNotDue);
         }
         if !FACTORS.contains(&fields.signed_2()) {

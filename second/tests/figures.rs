@@ -10,7 +10,7 @@ use second::fraction::Fraction;
 use second::reader::read;
 use second::sheet::FLOWGATE;
 use second::units::{Amount, Power, Price, Remainder, Seconds, Watts, rounded_quotient};
-use second::{Refusal, Statement, listing, settle, settle_into};
+use second::{Refusal, Statement, listing, report, settle};
 
 const LISTING_S: &str = "flowgate 415c42
 gtl 12600000 0 0
@@ -49,8 +49,8 @@ fn sheet_s_prints_its_listing() {
     let statement = settle(&sheet, &draft::list_s()).unwrap();
     assert_eq!(listing(&statement), LISTING_S.as_bytes());
     let mut out = [0x5a; 400];
-    let answer = settle_into(&sheet, &draft::list_s(), &mut out);
-    assert_eq!(answer, Ok(statement));
+    let answer = report(&sheet, &draft::list_s(), &mut out);
+    assert_eq!(answer, Ok((statement, LISTING_S.len())));
     let (front, rest) = out.split_at(LISTING_S.len());
     assert_eq!(front, LISTING_S.as_bytes());
     assert!(rest.iter().all(|byte| *byte == 0x5a));
@@ -61,12 +61,12 @@ fn a_short_buffer_is_refused_unchanged() {
     let (sheet, list) = (draft::sheet_s().concat(), draft::list_s());
     for length in 0..LISTING_S.len() {
         let mut out = vec![0x5a; length];
-        let answer = settle_into(&sheet, &list, &mut out);
+        let answer = report(&sheet, &list, &mut out);
         assert_eq!(answer, Err(Refusal::BufferTooShort));
         assert!(out.iter().all(|byte| *byte == 0x5a));
     }
     let mut out = vec![0x5a; LISTING_S.len()];
-    assert!(settle_into(&sheet, &list, &mut out).is_ok());
+    assert!(report(&sheet, &list, &mut out).is_ok());
 }
 
 #[test]

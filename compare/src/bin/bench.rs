@@ -62,8 +62,8 @@ fn row_of(what: &str, bytes: usize, inputs: usize, question: Question) {
 /// Settles with a buffer of the longest listing's length.
 fn settled(side: &dyn Side, sheet: &[u8], list: &[u8]) -> i64 {
     let mut out = [0; LONGEST_LISTING];
-    let statement = side.settle_into(sheet, list, &mut out);
-    statement.amount + i64::from(statement.refusal) + i64::from(out[0])
+    let answer = side.report(sheet, list, &mut out).figures;
+    answer.amount + i64::from(answer.refusal) + i64::from(out[0])
 }
 
 fn settle_row(what: &str, sheet: &[u8], list: &[u8]) {

@@ -41,12 +41,6 @@ fn patterned(length: usize) -> Vec<u8> {
     (0..length).map(|k| (k * 37 + 11) as u8 | 0x80).collect()
 }
 
-/// What stands before the first zero byte.
-pub fn until_zero(out: &[u8]) -> &[u8] {
-    let end = out.iter().position(|byte| *byte == 0);
-    &out[..end.unwrap_or(out.len())]
-}
-
 /// Asks both sides all questions, with a buffer for this answer; the refusal met, 0 on
 /// acceptance.
 pub fn check(sides: &Sides, input: &Input, answer: &Answer) -> Result<u8, Mismatch> {
@@ -78,23 +72,24 @@ fn names_of(sheet: &[u8], list: &[u8]) -> Vec<NameField> {
 fn printing(sides: &Sides, input: &Input, figures: Figures, length: usize) -> Result<u8, Mismatch> {
     let (sheet, list) = (&input.sheet[..], &input.list[..]);
     let mut out = patterned(length);
-    let answer = sides.second.settle_into(sheet, list, &mut out);
-    let expected = match (figures.refusal, answer.refusal) {
+    let answer = sides.second.report(sheet, list, &mut out);
+    let refusal = answer.figures.refusal;
+    let expected = match (figures.refusal, refusal) {
         (0, 23) => Figures::refused(23),
         _ => figures,
     };
-    same("statement with its listing", expected, answer)?;
-    if answer.refusal != 0 {
+    same("statement with its listing", expected, answer.figures)?;
+    if refusal != 0 {
         same("buffer of a refusal", &patterned(length), &out)?;
     }
     let mut buffer = patterned(length);
-    let tested = sides.tested.settle_into(sheet, list, &mut buffer);
+    let tested = sides.tested.report(sheet, list, &mut buffer);
     same("statement with its listing", answer, tested)?;
     if out != buffer {
         let shown = [&out, &buffer].map(|bytes| bytes.escape_ascii().to_string());
         return Err(Mismatch::of("output buffer", &shown[0], &shown[1]));
     }
-    Ok(answer.refusal)
+    Ok(refusal)
 }
 
 /// Judges the tested side's own figures by the exact ones.
@@ -153,5 +148,5 @@ fn par_as_flowgate(sheet: &[u8], content: &Sheet, par: usize) -> (Vec<u8>, Vec<u
     for index in (1..).take(points) {
         bytes.extend(draft::factor(0, Subject::Point as u8, index, 0));
     }
-    (bytes, draft::entitlement(*content.head.name.field(), 0))
+    (bytes, draft::entitlement(content.head.name.field(), 0))
 }

@@ -3,7 +3,7 @@
 use std::fmt;
 
 use crate::mismatch::Mismatch;
-use crate::questions::settle::{Input, Room, check};
+use crate::questions::settle::{Input, Room};
 use crate::sides::Side;
 
 #[derive(Debug)]
@@ -23,7 +23,8 @@ impl Expected {
             Expected::Refusal(number) => {
                 let figures = match input.room {
                     Room::Length(length) => {
-                        side.settle_into(&input.sheet, &input.list, &mut vec![0; length])
+                        let out = &mut vec![0; length];
+                        side.report(&input.sheet, &input.list, out).figures
                     }
                     Room::Listing(_) => side.settle(&input.sheet, &input.list),
                 };
@@ -35,9 +36,8 @@ impl Expected {
             }
             Expected::Line(line) => {
                 let mut out = [0; 1024];
-                side.settle_into(&input.sheet, &input.list, &mut out);
-                let listing = check::until_zero(&out);
-                let listing = String::from_utf8_lossy(listing).into_owned();
+                let length = side.report(&input.sheet, &input.list, &mut out).length;
+                let listing = String::from_utf8_lossy(&out[..length]).into_owned();
                 (listing.lines().any(|found| found == line), listing)
             }
         };

@@ -394,7 +394,7 @@ fn fault_in_list(chance: &mut Chance, flowgate: NameField, list: &mut Vec<Vec<u8
 mod tests {
     use super::*;
     use crate::questions::settle::check::room;
-    use second::settle_into;
+    use second::report;
 
     /// A planted row is nearly always the one that is met.
     #[test]
@@ -403,7 +403,7 @@ mod tests {
             let met = (0..60).filter(|k| {
                 let input = planted(&mut Chance::of(u64::from(row), *k), &[row]);
                 let mut out = vec![0; room(&input, &input.answer())];
-                let answer = settle_into(&input.sheet, &input.list, &mut out);
+                let answer = report(&input.sheet, &input.list, &mut out);
                 answer.is_err_and(|refusal| refusal.number() == row)
             });
             let met = met.count();

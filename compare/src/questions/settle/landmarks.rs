@@ -117,7 +117,7 @@ fn accepted(input: &Input, statement: &Statement) -> [bool; ACCEPTED.len()] {
     });
     let pjm = sheet.head.monitoring == Rto::Pjm;
     let [other_side, three, beyond_common, beyond_price] = accuracy(sheet, statement, common.0);
-    let units: Vec<NameField> = sheet.units.iter().map(|it| *it.name.field()).collect();
+    let units: Vec<NameField> = sheet.units.iter().map(|it| it.name.field()).collect();
     let entries = entry_names(&input.list);
     let last = |zone: usize| sheet.zones.len() == MOST_ZONES && zone == MOST_ZONES - 1;
     [

@@ -1,0 +1,51 @@
+-- The weighted sums of steps 3 to 5 in one form: what each record of a subject brings, times its factor on a target.
+-- Subjects are a factor's: 1 unit, 2 zone, 3 point, 4 PAR. The class asked is a point's type or a PAR's class; units and zones have none.
+use Prim.Native.Nat.{ℕ, _+_, _≤_}
+use mathlib.Core.Path.{_≡_}
+use mathlib.Core.Bool.{cond}
+use mathlib.Core.List.{List}
+use lib.Dec.{eqb}
+use lib.IntN.{ℤ, pos, _-ℤ_, _*ℤ_}
+use lib.ListN.{length}
+use Rattle.integers.specs.Sum.{sumTo}
+use Rattle.due_factors.specs.Due.{howMany}
+use Rattle.layout.specs.declared.Layout.{Layout}
+use Rattle.records.specs.Content.{Content, point, par, factorFor}
+use Rattle.sheet.specs.declared.Outcome.the-variants.{Accepted}
+use Rattle.sheet.specs.Sheet.{readSheet, contentOf}
+use Rattle.figures.specs.Balance.{zoneLoad, output}
+use Rattle.balance.specs.inner.Ledger.{ZoneLoads}
+
+-- an accepted sheet with its layout, and two arrays from which its zone loads are read
+pub record Given (s : List ℕ) (l : Layout) (plus minus : List ℕ) : Type 0 where
+  pub accepted : readSheet s ≡ Accepted l
+  pub loads : ZoneLoads (contentOf s) plus minus
+
+-- a target, and a subject whose factors on it are due
+pub record OnTarget (pars target subject : ℕ) : Type 0 where
+  pub known : target ≤ pars
+  pub low : 1 ≤ subject
+  pub high : subject ≤ 4
+  pub par : subject ≡ 4 → target ≡ 0
+
+-- ten times the difference of a record's two powers, if the record is of the class asked
+unfoldable pub gapIn : ℕ → ℕ → ℤ → ℤ → ℤ
+gapIn of class plus minus = cond (eqb of class) ((plus -ℤ minus) *ℤ pos 10) (pos 0)
+
+-- a unit's output, a zone's load, ten times a point's net schedule, ten times what a PAR's actual flow has more than its target
+unfoldable pub powerOf : Content → ℕ → ℕ → ℕ → ℤ
+powerOf c subject class i =
+    cond (eqb subject 1) (output c i)
+    (cond (eqb subject 2) (zoneLoad c i)
+    (cond (eqb subject 3) (gapIn (point c i .sort) class (pos (point c i .import)) (pos (point c i .export)))
+    (gapIn (par c i .class) class (par c i .actual) (par c i .target))))
+
+unfoldable pub weightedTerm : Content → ℕ → ℕ → ℕ → ℕ → ℤ
+weightedTerm c subject class target i = powerOf c subject class i *ℤ factorFor (c .factors) target subject (i + 1)
+
+-- how many records a subject has
+unfoldable pub members : Content → ℕ → ℕ
+members c subject = howMany (length (c .zones)) (length (c .units)) (length (c .points)) (length (c .pars)) subject
+
+unfoldable pub weightedSum : Content → ℕ → ℕ → ℕ → ℤ
+weightedSum c subject class target = sumTo (weightedTerm c subject class target) (members c subject)
