@@ -1,4 +1,4 @@
-//! Inputs as readable text and back, by the one text tool.
+//! Inputs as readable text and back, by the one text tool: `m2m text`.
 
 use std::io::Write;
 use std::path::{Path, PathBuf};
@@ -12,9 +12,10 @@ pub fn root() -> PathBuf {
 
 /// What the tool prints for these bytes, or its complaint.
 fn tool(words: &[&str], bytes: &[u8]) -> Result<String, String> {
-    let path = root().join("tools/m2m-text");
+    let path = root().join("tools/m2m");
     let fault = |error| format!("{}: {error}", path.display());
     let mut child = Command::new(&path)
+        .arg("text")
         .args(words)
         .stdin(Stdio::piped())
         .stdout(Stdio::piped())

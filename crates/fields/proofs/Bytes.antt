@@ -1,40 +1,22 @@
--- A field and its bytes: each is had back from the other; and equal fields have equal bytes. Assumes nothing.
-use Prim.Native.Nat.{ℕ, suc, _+_, _*_, _-_, _/_, _%_, _<_, _≤_}
-use mathlib.Core.Path.{_≡_, refl, sym, ap, ap₂, _∙_}
-use mathlib.Core.Bool.{Bool, true, false}
-use borrow.Author.Tests.{ltb-true, ltb-false, eqb-true, eqb-false}
-use lib.Dec.{ltb, eqb}
+-- Equal fields have equal bytes, and the other way.
+use Prim.Native.Nat.{ℕ, suc, _+_, _*_, _-_, _/_, _<_, _≤_}
+use mathlib.Core.Path.{_≡_, sym, ap, ap₂, _∙_}
 use native.Mathlib.Nat.{add-assoc, div-eq-of-lt-le}
-use mathlib.Core.List.{List, [], _∷_, _++_}
+use mathlib.Core.List.{List}
 use native.Mathlib.Omega.{arith}
 use lib.ListN.{getD}
-use Rattle.fields.specs.Fields.{byteAt, be16, be32, be64, bytes16, bytes32}
+use Rattle.integers.proofs.Cases.{below-or}
+use Rattle.fields.specs.Fields.{byteAt, be16, be32, be64}
 
 -- a list of bytes
 abbrev pub Bytes : List ℕ → Type 0
 Bytes s = (i : ℕ) → getD s i 0 < 256
 
-pub be16-small : (s : List ℕ) → Bytes s → (at : ℕ) → be16 s at < 65536
+be16-small : (s : List ℕ) → Bytes s → (at : ℕ) → be16 s at < 65536
 be16-small s b at = omega (arith, b at, b (at + 1))
 
-pub be32-small : (s : List ℕ) → Bytes s → (at : ℕ) → be32 s at < 4294967296
+be32-small : (s : List ℕ) → Bytes s → (at : ℕ) → be32 s at < 4294967296
 be32-small s b at = omega (arith, be16-small s b at, be16-small s b (at + 2))
-
-by-order : {P : Type 0} (b : Bool) (i n : ℕ) → ltb i n ≡ b → (i < n → P) → (n ≤ i → P) → P
-by-order true i n e p q = p (ltb-true _ _ e)
-by-order false i n e p q = q (ltb-false _ _ e)
-
-by-equal : {P : Type 0} (b : Bool) (m n : ℕ) → eqb m n ≡ b → (m ≡ n → P) → ((m ≡ n → ⊥) → P) → P
-by-equal true m n e p q = p (eqb-true _ _ e)
-by-equal false m n e p q = q (eqb-false _ _ e)
-
--- two cases: below, or not
-pub below-or : {P : Type 0} (i n : ℕ) → (i < n → P) → (n ≤ i → P) → P
-below-or i n p q = by-order (ltb i n) i n refl p q
-
--- two cases: equal, or not
-pub equal-or : {P : Type 0} (m n : ℕ) → (m ≡ n → P) → ((m ≡ n → ⊥) → P) → P
-equal-or m n p q = by-equal (eqb m n) m n refl p q
 
 -- an index past n, counted from n
 moved : (i k n : ℕ) → n ≤ k → i + k ≡ i + n + (k - n)
@@ -50,33 +32,11 @@ parts B x y m n h g e =
     quotient : (u v : ℕ) → v < B → (u * B + v) / B ≡ u
     quotient u v h = div-eq-of-lt-le {k = u} B {m = u * B + v} (omega arith) (omega arith)
 
--- a number's bytes are read back as the number
-pub read-bytes16 : (n : ℕ) (r : List ℕ) → be16 (bytes16 n ++ r) 0 ≡ n
-read-bytes16 n r = omega arith
-
-pub read-bytes32 : (n : ℕ) (r : List ℕ) → be32 (bytes32 n ++ r) 0 ≡ n
-read-bytes32 n r = omega arith
-
--- and a field's bytes are those that stand there
-pub bytes16-read : (s : List ℕ) → Bytes s → (at : ℕ) → bytes16 (be16 s at) ≡ byteAt s at ∷ byteAt s (at + 1) ∷ []
-bytes16-read s b at =
-    let h : be16 s at / 256 ≡ byteAt s at = omega (arith, b (at + 1)) in
-    let l : be16 s at % 256 ≡ byteAt s (at + 1) = omega (arith, b (at + 1)) in
-    rw (h, l)
-
-pub bytes32-read : (s : List ℕ) → Bytes s → (at : ℕ) → bytes32 (be32 s at) ≡ byteAt s at ∷ byteAt s (at + 1) ∷ byteAt s (at + 2) ∷ byteAt s (at + 2 + 1) ∷ []
-bytes32-read s b at =
-    let h : be32 s at / 65536 ≡ be16 s at = omega (arith, be16-small s b (at + 2)) in
-    let l : be32 s at % 65536 ≡ be16 s (at + 2) = omega (arith, be16-small s b (at + 2)) in
-    rw (h, l)
-    (ap (λ (x : List ℕ). x ++ bytes16 (be16 s (at + 2))) (bytes16-read s b at)
-    ∙ ap (λ (x : List ℕ). (byteAt s at ∷ byteAt s (at + 1) ∷ []) ++ x) (bytes16-read s b (at + 2)))
-
 -- n bytes of s from i, and of t from j, are the same
 abbrev pub Agree : List ℕ → ℕ → List ℕ → ℕ → ℕ → Type 0
 Agree s i t j n = (k : ℕ) → k < n → getD s (i + k) 0 ≡ getD t (j + k) 0
 
--- equal fields have equal bytes, and the other way: each width by the one below
+-- each width by the one below
 module _ (s t : List ℕ) where
   agree-one : (i j : ℕ) → byteAt s i ≡ byteAt t j → Agree s i t j 1
   agree-one i j e k h =
