@@ -10,7 +10,7 @@ ROOT = os.path.dirname(os.path.dirname(os.path.abspath(__file__)))
 
 def cases():
     text = subprocess.run(
-        [os.path.join(ROOT, "tools/m2m-text"), "cases", os.path.join(ROOT, "tests/cases")],
+        [os.path.join(ROOT, "tools/m2m"), "text", "cases", os.path.join(ROOT, "tests/cases")],
         check=True,
         capture_output=True,
         text=True,

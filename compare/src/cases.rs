@@ -1,4 +1,4 @@
-//! The case files below tests/cases, made bytes by tools/m2m-text.
+//! The case files below tests/cases, made bytes by tools/m2m.
 
 use std::fmt;
 use std::path::{Path, PathBuf};
@@ -48,9 +48,9 @@ pub fn root() -> PathBuf {
 
 /// All cases below a folder.
 pub fn load(folder: &Path) -> Result<Vec<Case>, String> {
-    let tool = root().join("tools/m2m-text");
+    let tool = root().join("tools/m2m");
     let output = Command::new(&tool)
-        .arg("cases")
+        .args(["text", "cases"])
         .arg(folder)
         .output()
         .map_err(|error| format!("{}: {error}", tool.display()))?;
@@ -229,7 +229,7 @@ mod tests {
         assert_eq!(tally.total(), 293 + 181 + 20);
     }
 
-    /// What is printed here is read by tools/m2m-text as the same bytes.
+    /// What is printed here is read by tools/m2m as the same bytes.
     #[test]
     fn printed_inputs_are_read_back() {
         let folder = std::env::temp_dir().join(format!("m2m-printed-{}", std::process::id()));

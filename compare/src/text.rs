@@ -1,4 +1,4 @@
-//! Inputs as readable text, in the format of tools/m2m-text.
+//! Inputs as readable text, in the text form of docs/FORMAT.md.
 
 use std::fmt::Write;
 
