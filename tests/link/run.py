@@ -213,16 +213,16 @@ def header(text, folder):
 
 def rust(text, folder):
     """The layout of the Rust declarations, as the Rust compiler has it."""
-    plain = re.sub(r"//[^\n]*", "", text)
+    plain = re.sub(r"//[^\n]*|\bpub ", "", text)
     structs, sources = {}, []
-    for kind, body in re.findall(r"#\[repr\(C\)\]\s*(?:pub )?struct (\w+) \{(.*?)\n\}", plain, re.S):
+    for kind, body in re.findall(r"#\[repr\(C\)\]\s*struct (\w+) \{(.*?)\n\}", plain, re.S):
         structs[kind] = [
-            (type_.strip(), field) for field, type_ in re.findall(r"(\w+): ((?:\[[^\]]*\]|[^,\[])+),", body.replace("pub ", ""))
+            (type_.strip(), field) for field, type_ in re.findall(r"(\w+): ((?:\[[^\]]*\]|[^,\[])+),", body)
         ]
         sources.append("#[repr(C)] struct %s {%s}" % (kind, body))
     answers = dict(re.findall(r"fn (m2m_\w+)\([^)]*\) -> (\w+);", plain))
     used = {type_ for fields in structs.values() for type_, _ in fields}
-    for alias, type_ in dict(re.findall(r"pub type (\w+) = (\[[^\]]*\]|[^;\[]+);", plain)).items():
+    for alias, type_ in dict(re.findall(r"\btype (\w+) = (\[[^\]]*\]|[^;\[]+);", plain)).items():
         if alias in used:
             sources.append("type %s = %s;" % (alias, type_))
     lines = []
