@@ -1,45 +1,15 @@
 //! Inputs drawn by chance: sound ones, extreme ones and damaged ones.
 
-use second::draft;
-use second::names::Name;
-use second::settle;
+use second::layout::{ENTITLEMENTS, FACTORS, LOADS, MOST_ENTITLEMENTS, MOST_PARS, PAR_FLOWS};
+use second::names::NameField;
+use second::payment::LARGEST_FLOW;
+use second::units::Power;
+use second::{draft, reader};
 
 use crate::chance::Chance;
-use crate::faults;
-use crate::interval::{drawn, names, signed_value, Interval, Scale, Sizes};
-
-pub const MOST_ENTITLEMENTS: usize = 2_500;
-const LARGEST_ENTITLEMENT: i64 = 100_000;
-const LARGEST_MARKET_FLOW: i64 = 10_000_000_000;
-const WATTS_PER_POWER: i64 = 100_000;
-
-/// The output buffer's length.
-#[derive(Clone, Copy, Debug)]
-pub enum Room {
-    Length(usize),
-    /// As long as the listing and this much more, or less.
-    Listing(i64),
-}
-
-#[derive(Clone, Debug)]
-pub struct Input {
-    pub sheet: Vec<u8>,
-    pub list: Vec<u8>,
-    pub room: Room,
-    /// How the input came about.
-    pub origin: String,
-}
-
-impl Input {
-    pub fn of(origin: &str, sheet: Vec<u8>, list: Vec<u8>) -> Self {
-        Input {
-            sheet,
-            list,
-            room: Room::Listing(40),
-            origin: origin.to_string(),
-        }
-    }
-}
+use crate::interval::{Interval, Scale, Sizes, drawn, names, signed_value};
+use crate::questions::settle::faults;
+use crate::questions::settle::{Input, Room};
 
 /// The k-th input of a seed.
 pub fn input(seed: u64, k: u64) -> Input {
@@ -71,11 +41,16 @@ pub fn input(seed: u64, k: u64) -> Input {
 }
 
 /// A list of some entries that holds the flowgate's, which has this value.
-pub fn list_with(chance: &mut Chance, flowgate: Name, value: i32, count: usize) -> Vec<Vec<u8>> {
+pub fn list_with(
+    chance: &mut Chance,
+    flowgate: NameField,
+    value: i32,
+    count: usize,
+) -> Vec<Vec<u8>> {
     let mut entries: Vec<Vec<u8>> = names(chance, count)
         .into_iter()
         .filter(|name| *name != flowgate)
-        .map(|name| draft::entitlement(name, signed_value(chance, LARGEST_ENTITLEMENT) as i32))
+        .map(|name| draft::entitlement(name, signed_value(chance, *ENTITLEMENTS.end()) as i32))
         .collect();
     entries.truncate(MOST_ENTITLEMENTS - 1);
     let places = [0, entries.len() / 2, entries.len()];
@@ -85,10 +60,10 @@ pub fn list_with(chance: &mut Chance, flowgate: Name, value: i32, count: usize) 
 }
 
 pub fn some_list(chance: &mut Chance, interval: &Interval) -> Vec<Vec<u8>> {
-    let value = signed_value(chance, LARGEST_ENTITLEMENT) as i32;
+    let value = signed_value(chance, *ENTITLEMENTS.end()) as i32;
     let value = chance.pick(&[value, value, 0, value % 100]);
     let count = chance.pick(&[0, 0, 1, 2, 5, 30]);
-    list_with(chance, interval.name, value, count)
+    list_with(chance, interval.head.name, value, count)
 }
 
 /// An interval that is mostly accepted.
@@ -117,10 +92,10 @@ fn tiny(chance: &mut Chance) -> Input {
     let sizes = Sizes::drawn(chance);
     let mut interval = drawn(chance, sizes, Scale::TINY);
     if chance.one_in(2) {
-        interval.seconds = 300;
-        interval.prices = [6000, chance.pick(&[6000, 400_000, 1])];
+        interval.head.seconds = 300;
+        interval.head.prices = [6000, chance.pick(&[6000, 400_000, 1])];
     }
-    let list = draft::entitlement(interval.name, 0);
+    let list = draft::entitlement(interval.head.name, 0);
     Input::of("tiny powers", interval.records().concat(), list)
 }
 
@@ -142,14 +117,14 @@ fn extreme(chance: &mut Chance) -> Input {
 
 /// Adds a PAR whose control moves the market flow by tens of watts.
 fn with_lever(chance: &mut Chance, interval: &mut Interval) -> usize {
-    if interval.pars.len() == Sizes::LONGEST.pars {
+    if interval.pars.len() == MOST_PARS {
         interval.pars.pop();
         interval.flowgate.pars.pop();
         interval.on_pars.pop();
     }
     let names = names(chance, 9);
     let mut taken = interval.pars.iter().map(|par| par.name);
-    let taken: Vec<Name> = taken.by_ref().collect();
+    let taken: Vec<NameField> = taken.by_ref().collect();
     let name = names.into_iter().find(|name| !taken.contains(name));
     let lever = interval.add_par(name.unwrap_or([b'l'; 16]));
     interval.flowgate.pars[lever] = 1;
@@ -157,14 +132,24 @@ fn with_lever(chance: &mut Chance, interval: &mut Interval) -> usize {
 }
 
 /// Moves the market flow to the wanted one, as near as tens of watts can.
-fn steer(chance: &mut Chance, interval: &mut Interval, wanted: impl Fn(i64) -> i64) {
+pub fn steer(chance: &mut Chance, interval: &mut Interval, wanted: impl Fn(i64) -> i64) {
     let lever = with_lever(chance, interval);
-    let list = draft::entitlement(interval.name, 0);
-    let market = settle(&interval.records().concat(), &list).market;
+    let market = market(&interval.records().concat());
     let steps = (wanted(market) - market) / 10 + chance.within(-1..=1);
-    let actual = steps.clamp(-200_000, 200_000);
+    let (least, most) = PAR_FLOWS.into_inner();
+    let actual = steps.clamp(least, most);
     interval.pars[lever].actual = actual as i32;
-    interval.pars[lever].target = (actual - steps).clamp(-200_000, 200_000) as i32;
+    interval.pars[lever].target = (actual - steps).clamp(least, most) as i32;
+}
+
+/// The market flow of a sheet that passes rows 1 to 13 and 16 to 21, in range or not;
+/// 0 for another.
+pub fn market(sheet: &[u8]) -> i64 {
+    let flow = reader::read(sheet).ok().and_then(|sheet| {
+        let balance = second::balance::balance(&sheet).ok()?;
+        Some(second::flow::market_flow(&sheet, &balance).market.0)
+    });
+    flow.unwrap_or(0)
 }
 
 /// Market flows on and next to ±10,000,000,000 W.
@@ -180,9 +165,9 @@ fn at_the_limit(chance: &mut Chance) -> Input {
     interval.points[point].import = 99_980;
     interval.points[point].class = chance.pick(&[1, 2]);
     interval.flowgate.points[point] = 10_000 * sign as i16;
-    steer(chance, &mut interval, |_| sign * LARGEST_MARKET_FLOW);
+    steer(chance, &mut interval, |_| sign * LARGEST_FLOW.0);
     let value = chance.pick(&[0, 100_000, -100_000, 99_999, -99_999]);
-    let list = draft::entitlement(interval.name, value);
+    let list = draft::entitlement(interval.head.name, value);
     Input::of("next to the limit", interval.records().concat(), list)
 }
 
@@ -193,15 +178,14 @@ fn at_the_entitlement(chance: &mut Chance) -> Input {
         interval.flatten();
     }
     let mut entitlement = 0;
-    steer(chance, &mut interval, |market| {
-        market / WATTS_PER_POWER * WATTS_PER_POWER
-    });
+    let watts = Power(1).watts().0;
+    steer(chance, &mut interval, |market| market / watts * watts);
     let sheet = interval.records().concat();
-    let market = settle(&sheet, &draft::entitlement(interval.name, 0)).market;
-    if market.abs() <= LARGEST_MARKET_FLOW {
-        entitlement = (market + WATTS_PER_POWER / 2).div_euclid(WATTS_PER_POWER) as i32;
+    let market = market(&sheet);
+    if market.abs() <= LARGEST_FLOW.0 {
+        entitlement = (market + watts / 2).div_euclid(watts) as i32;
     }
-    let list = list_with(chance, interval.name, entitlement, 3).concat();
+    let list = list_with(chance, interval.head.name, entitlement, 3).concat();
     Input::of("next to the entitlement", sheet, list)
 }
 
@@ -212,9 +196,9 @@ fn next_to_zero(chance: &mut Chance) -> Input {
     for _ in 0..30 {
         let interval = much_rounded(chance);
         input.sheet = interval.records().concat();
-        input.list = draft::entitlement(interval.name, 0);
+        input.list = draft::entitlement(interval.head.name, 0);
         input.origin = String::from("a watt or so");
-        if settle(&input.sheet, &input.list).market.abs() == 1 {
+        if market(&input.sheet).abs() == 1 {
             break;
         }
     }
@@ -227,14 +211,14 @@ fn much_rounded(chance: &mut Chance) -> Interval {
         zones: 2 + chance.below(3),
         units: 1 + chance.below(3),
         points: chance.below(3),
-        pars: Sizes::LONGEST.pars - 1,
+        pars: MOST_PARS - 1,
     };
     let scale = Scale {
         power: 40,
         factor: 50,
     };
     let mut interval = drawn(chance, sizes, scale);
-    interval.monitoring = 2;
+    interval.head.monitoring = 2;
     for (par, factor) in interval.pars.iter_mut().zip(&mut interval.flowgate.pars) {
         par.target = par.actual;
         *factor = chance.pick(&[9999, -9999, 10_000, -10_000]);
@@ -320,7 +304,7 @@ fn oversized(chance: &mut Chance) -> Input {
     let scale = Scale::drawn(chance);
     let interval = drawn(chance, Sizes::LONGEST, scale);
     let count = chance.pick(&[1, MOST_ENTITLEMENTS]);
-    let mut list = list_with(chance, interval.name, 0, count).concat();
+    let mut list = list_with(chance, interval.head.name, 0, count).concat();
     let mut sheet = interval.records().concat();
     let more = chance.pick(&[1, 6, 7, 27, 28, 29, 5_000, 60_000]);
     let bytes = if chance.one_in(2) {
@@ -362,7 +346,7 @@ fn listed(chance: &mut Chance) -> Input {
     );
     let any = chance.below(MOST_ENTITLEMENTS);
     let count = chance.pick(&[any, MOST_ENTITLEMENTS - 1, MOST_ENTITLEMENTS]);
-    let mut list = list_with(chance, interval.name, 1, count);
+    let mut list = list_with(chance, interval.head.name, 1, count);
     let (one, other) = (chance.below(list.len()), chance.below(list.len()));
     match chance.below(6) {
         0 => {
@@ -380,8 +364,8 @@ fn listed(chance: &mut Chance) -> Input {
 /// The longest sheet.
 pub fn longest(chance: &mut Chance) -> Input {
     let scale = Scale {
-        factor: chance.pick(&[10, 100, 10_000]),
-        power: chance.pick(&[100_000, 2_000_000]),
+        factor: chance.pick(&[10, 100, *FACTORS.end()]),
+        power: chance.pick(&[100_000, *LOADS.end()]),
     };
     let interval = drawn(chance, Sizes::LONGEST, scale);
     with_list(chance, "the longest sheet", &interval)

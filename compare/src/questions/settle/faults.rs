@@ -1,25 +1,30 @@
-//! Inputs made to meet chosen rows: each refusal by itself, and in pairs.
+//! Inputs made to meet chosen rows anywhere: each refusal by itself, and in pairs.
 
-use second::draft;
-use second::names::Name;
+use std::ops::RangeInclusive;
+
+use second::layout::{ENTITLEMENTS, Kind, LOADS, MOST_ENTITLEMENTS, PAR_FLOWS, PRICES, SCHEDULES};
+use second::names::NameField;
+use second::{Refusal, draft};
 
 use crate::chance::Chance;
-use crate::inputs::{list_with, sound, Input, Room, MOST_ENTITLEMENTS};
-use crate::interval::{names, Interval, Unit};
+use crate::interval::{Interval, names};
+use crate::questions::settle::inputs::{list_with, sound};
+use crate::questions::settle::{Input, Room};
 
-pub const REFUSALS: u8 = 23;
+fn any_row(chance: &mut Chance) -> u8 {
+    1 + chance.below(usize::from(Refusal::LAST.number())) as u8
+}
 
 /// An input that is made to meet one row.
 pub fn alone(chance: &mut Chance) -> Input {
-    let row = 1 + chance.below(usize::from(REFUSALS)) as u8;
+    let row = any_row(chance);
     planted(chance, &[row])
 }
 
 /// An input that is made to meet two rows.
 pub fn pair(chance: &mut Chance) -> Input {
-    let row = 1 + chance.below(usize::from(REFUSALS)) as u8;
-    let other = 1 + chance.below(usize::from(REFUSALS)) as u8;
-    planted(chance, &[row, other])
+    let rows = [any_row(chance), any_row(chance)];
+    planted(chance, &rows)
 }
 
 /// Plants the faults from the fields outwards: fields, records, bytes.
@@ -50,7 +55,7 @@ pub fn planted(chance: &mut Chance, rows: &[u8]) -> Input {
             _ => sheet[0] = chance.pick(&[0, 2, 3, 4, 5, 6, 7, 255]),
         }
     }
-    let list = list(chance, interval.name, rows);
+    let list = list(chance, interval.head.name, rows);
     let mut input = Input::of(&format!("made to meet {rows:?}"), sheet, list);
     if rows.contains(&23) {
         input.room = Room::Listing(-1 - chance.below(300) as i64);
@@ -58,7 +63,7 @@ pub fn planted(chance: &mut Chance, rows: &[u8]) -> Input {
     input
 }
 
-fn bad_name(chance: &mut Chance) -> Name {
+pub fn bad_name(chance: &mut Chance) -> NameField {
     let mut name = [b'n'; 16];
     match chance.below(3) {
         0 => name = [0; 16],
@@ -91,8 +96,8 @@ fn in_field(chance: &mut Chance, interval: &mut Interval, row: u8) {
     }
 }
 
-fn any_name<'a>(chance: &mut Chance, interval: &'a mut Interval) -> &'a mut Name {
-    let mut names: Vec<&mut Name> = vec![&mut interval.name];
+fn any_name<'a>(chance: &mut Chance, interval: &'a mut Interval) -> &'a mut NameField {
+    let mut names: Vec<&mut NameField> = vec![&mut interval.head.name];
     names.extend(interval.zones.iter_mut().map(|zone| &mut zone.name));
     names.extend(interval.units.iter_mut().map(|unit| &mut unit.name));
     names.extend(interval.points.iter_mut().map(|point| &mut point.name));
@@ -115,7 +120,9 @@ fn doubled_name(chance: &mut Chance, interval: &mut Interval) {
             let at = chance.below(interval.units.len() - 1);
             interval.units[at].name = interval.units[at + 1].name;
         }
-        _ => add_unit(interval, interval.units[0].clone()),
+        _ => {
+            interval.add_unit(interval.units[0].name, interval.units[0].zone);
+        }
     }
 }
 
@@ -124,7 +131,7 @@ fn bad_code(chance: &mut Chance, interval: &mut Interval) {
     let unlisted = chance.pick(&[0, 3, 255]);
     let (points, pars) = (interval.points.len(), interval.pars.len());
     match chance.below(5) {
-        0 => interval.monitoring = unlisted,
+        0 => interval.head.monitoring = unlisted,
         1 if points > 0 => interval.points[chance.below(points)].class = unlisted,
         2 if points > 0 => interval.points[chance.below(points)].place = chance.pick(&[above, 255]),
         3 if pars > 0 => interval.pars[chance.below(pars)].class = unlisted,
@@ -136,22 +143,31 @@ fn bad_code(chance: &mut Chance, interval: &mut Interval) {
 }
 
 fn bad_number(chance: &mut Chance, interval: &mut Interval) {
-    let large = |chance: &mut Chance, most: u32| chance.pick(&[most + 1, 0x8000_0000, u32::MAX]);
-    let beyond = chance.pick(&[200_001, -200_001, i32::MIN, i32::MAX]);
+    let beyond = beyond_par_flows(chance);
     let zone = chance.below(interval.zones.len());
     let unit = chance.below(interval.units.len());
     match chance.below(10) {
-        0 => interval.seconds = chance.pick(&[0, 901, u16::MAX]),
-        1 => interval.prices[0] = large(chance, 400_000),
-        2 => interval.prices[1] = large(chance, 400_000),
-        3 => interval.zones[zone].load = large(chance, 2_000_000),
-        4 => interval.zones[zone].losses = large(chance, 2_000_000),
-        5 if !interval.points.is_empty() => interval.points[0].import = large(chance, 200_000),
-        6 if !interval.points.is_empty() => interval.points[0].export = large(chance, 200_000),
+        0 => interval.head.seconds = chance.pick(&[0, 901, u16::MAX]),
+        1 => interval.head.prices[0] = above(chance, &PRICES),
+        2 => interval.head.prices[1] = above(chance, &PRICES),
+        3 => interval.zones[zone].load = above(chance, &LOADS),
+        4 => interval.zones[zone].losses = above(chance, &LOADS),
+        5 if !interval.points.is_empty() => interval.points[0].import = above(chance, &SCHEDULES),
+        6 if !interval.points.is_empty() => interval.points[0].export = above(chance, &SCHEDULES),
         7 if !interval.pars.is_empty() => interval.pars[0].actual = beyond,
         8 if !interval.pars.is_empty() => interval.pars[0].target = beyond,
-        _ => interval.units[unit].output = large(chance, 2_000_000),
+        _ => interval.units[unit].output = above(chance, &LOADS),
     }
+}
+
+/// Above an unsigned field's range.
+pub fn above(chance: &mut Chance, range: &RangeInclusive<i64>) -> u32 {
+    chance.pick(&[*range.end() as u32 + 1, 0x8000_0000, u32::MAX])
+}
+
+pub fn beyond_par_flows(chance: &mut Chance) -> i32 {
+    let (least, most) = (*PAR_FLOWS.start() as i32, *PAR_FLOWS.end() as i32);
+    chance.pick(&[most + 1, least - 1, i32::MIN, i32::MAX])
 }
 
 /// A point to be made faulty, a new one where there is none.
@@ -192,9 +208,7 @@ fn too_much(chance: &mut Chance, interval: &mut Interval) {
         return;
     }
     if interval.units.len() == 1 {
-        let mut more = interval.units[0].clone();
-        more.name = [b'm'; 16];
-        add_unit(interval, more);
+        interval.add_unit([b'm'; 16], 1);
     }
     interval.units[0].output = 2_000_000;
     interval.units[1].output = little;
@@ -239,14 +253,6 @@ fn in_generation(chance: &mut Chance, interval: &mut Interval, row: u8, point: u
     interval.points[point].export = little + chance.pick(&[1, 50]);
 }
 
-fn add_unit(interval: &mut Interval, unit: Unit) {
-    interval.units.push(unit);
-    interval.flowgate.units.push(0);
-    for factors in &mut interval.on_pars {
-        factors.units.push(0);
-    }
-}
-
 fn beyond_the_limit(chance: &mut Chance, interval: &mut Interval) {
     let par = match interval.pars.len() {
         0 => interval.add_par([b'f'; 16]),
@@ -261,7 +267,9 @@ fn beyond_the_limit(chance: &mut Chance, interval: &mut Interval) {
 
 /// Rows 2, 4, 5, 10, 12 and 13: whole records.
 fn in_records(chance: &mut Chance, interval: &Interval, records: &mut Vec<Vec<u8>>, row: u8) {
-    let factors = records.iter().position(|record| record[0] == 6);
+    let factors = records
+        .iter()
+        .position(|record| record[0] == Kind::Factor as u8);
     let factors = factors.unwrap_or(records.len());
     match row {
         2 => {
@@ -335,7 +343,7 @@ fn misplaced_factor(chance: &mut Chance, records: &mut Vec<Vec<u8>>, factors: us
 }
 
 /// The list, with rows 14 and 15 planted where they are wanted.
-fn list(chance: &mut Chance, flowgate: Name, rows: &[u8]) -> Vec<u8> {
+fn list(chance: &mut Chance, flowgate: NameField, rows: &[u8]) -> Vec<u8> {
     let count = chance.pick(&[1, 3, 10]);
     let mut list = list_with(chance, flowgate, 5, count);
     if rows.contains(&15) {
@@ -347,11 +355,14 @@ fn list(chance: &mut Chance, flowgate: Name, rows: &[u8]) -> Vec<u8> {
     list.concat()
 }
 
-fn fault_in_list(chance: &mut Chance, flowgate: Name, list: &mut Vec<Vec<u8>>) {
+fn fault_in_list(chance: &mut Chance, flowgate: NameField, list: &mut Vec<Vec<u8>>) {
     let at = chance.below(list.len() + 1);
     let bad = match chance.below(6) {
         0 => draft::entitlement(bad_name(chance), 0),
-        1 => draft::entitlement([b'v'; 16], chance.pick(&[100_001, -100_001, i32::MIN])),
+        1 => {
+            let (least, most) = (*ENTITLEMENTS.start() as i32, *ENTITLEMENTS.end() as i32);
+            draft::entitlement([b'v'; 16], chance.pick(&[most + 1, least - 1, i32::MIN]))
+        }
         2 => {
             let mut record = draft::entitlement([b'k'; 16], 0);
             record[0] = chance.pick(&[0, 1, 0x11, 0x20]);
@@ -382,17 +393,18 @@ fn fault_in_list(chance: &mut Chance, flowgate: Name, list: &mut Vec<Vec<u8>>) {
 #[cfg(test)]
 mod tests {
     use super::*;
-    use crate::check::room;
-    use second::settle_into;
+    use crate::questions::settle::check::room;
+    use second::report;
 
     /// A planted row is nearly always the one that is met.
     #[test]
     fn each_row_is_met_by_itself() {
-        for row in 1..=REFUSALS {
+        for row in 1..=Refusal::LAST.number() {
             let met = (0..60).filter(|k| {
                 let input = planted(&mut Chance::of(u64::from(row), *k), &[row]);
-                let mut out = vec![0; room(&input)];
-                settle_into(&input.sheet, &input.list, &mut out).refusal == row
+                let mut out = vec![0; room(&input, &input.answer())];
+                let answer = report(&input.sheet, &input.list, &mut out);
+                answer.is_err_and(|refusal| refusal.number() == row)
             });
             let met = met.count();
             assert!(met > 40, "row {row} was met {met} times of 60");

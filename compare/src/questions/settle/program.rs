@@ -3,12 +3,12 @@
 use std::fs;
 use std::io;
 use std::path::{Path, PathBuf};
-use std::process::Command;
+use std::process::{Command, Output};
 
 use second::{draft, printed, settle};
 
-use crate::check::{Mismatch, Trouble};
-use crate::inputs::Input;
+use crate::mismatch::{Mismatch, Trouble};
+use crate::questions::settle::Input;
 
 /// A file of the working folder.
 #[derive(Clone, Copy, PartialEq, Eq)]
@@ -41,20 +41,24 @@ impl Program {
         self.check_supplied(input, [Supply::Written; 2])
     }
 
-    /// Files that are missing or can't be read count as empty.
-    pub fn check_absent_files(&self) -> Result<(), Box<Trouble>> {
+    /// Files that are missing or can't be read count as empty; how many runs there
+    /// were.
+    pub fn check_absent_files(&self) -> Result<u64, Box<Trouble>> {
         let input = Input::of(
             "files missing or unreadable",
             draft::sheet_s().concat(),
             draft::list_s(),
         );
-        for sheet in [Supply::Written, Supply::Missing, Supply::Unreadable] {
-            for list in [Supply::Written, Supply::Missing, Supply::Unreadable] {
-                self.check_supplied(&input, [sheet, list])
-                    .map_err(|mismatch| Trouble::boxed(&input, mismatch))?;
+        let supplies = [Supply::Written, Supply::Missing, Supply::Unreadable];
+        let mut runs = 0;
+        for sheet in supplies {
+            for list in supplies {
+                let outcome = self.check_supplied(&input, [sheet, list]);
+                outcome.map_err(|mismatch| input.trouble(mismatch))?;
+                runs += 1;
             }
         }
-        Ok(())
+        Ok(runs)
     }
 
     fn check_supplied(&self, input: &Input, supplied: [Supply; 2]) -> Result<(), Mismatch> {
@@ -67,14 +71,22 @@ impl Program {
         let expected = printed(&settle(&sheet, &list));
         let run = self.run(input, supplied);
         let found = run.map_err(|error| Mismatch::of("run of the program", "", error))?;
-        if found == expected {
-            return Ok(());
+        for (what, expected, found) in [
+            ("printed text", &expected[..], &found.stdout),
+            ("standard error", b"", &found.stderr),
+        ] {
+            if expected != found {
+                let shown = [expected, found].map(|text| text.escape_ascii().to_string());
+                return Err(Mismatch::of(what, &shown[0], &shown[1]));
+            }
         }
-        let shown = [&expected, &found].map(|text| text.escape_ascii().to_string());
-        Err(Mismatch::of("printed text", &shown[0], &shown[1]))
+        match found.status.code() {
+            Some(0) => Ok(()),
+            _ => Err(Mismatch::of("exit code", "exit status: 0", found.status)),
+        }
     }
 
-    fn run(&self, input: &Input, supplied: [Supply; 2]) -> io::Result<Vec<u8>> {
+    fn run(&self, input: &Input, supplied: [Supply; 2]) -> io::Result<Output> {
         for (file, bytes, supply) in [
             ("sheet.bin", &input.sheet, supplied[0]),
             ("entitle.bin", &input.list, supplied[1]),
@@ -87,13 +99,7 @@ impl Program {
                 Supply::Unreadable => fs::create_dir(&path)?,
             }
         }
-        let output = Command::new(&self.path)
-            .current_dir(&self.folder)
-            .output()?;
-        match output.status.code() {
-            Some(_) => Ok(output.stdout),
-            None => Err(io::Error::other("ended by a signal")),
-        }
+        Command::new(&self.path).current_dir(&self.folder).output()
     }
 }
 
