@@ -1,12 +1,13 @@
--- The listing of document 01's sheet S.
+-- What document 01 prints: the listing of sheet S, and a refusal's line.
 use mathlib.Core.Path.{_≡_}
 use mathlib.Core.List.{[], _∷_, _++_}
 use lib.IntN.{pos, negsuc}
 use Rattle.statement.specs.declared.Statement.{Statement}
+use Rattle.statement.specs.Statement.{refusedAs}
 use Rattle.writers.specs.Text.{ascii, digits, decimal, unfilled, hexadecimal}
 use Rattle.writers.proofs.Decimal.{natural-computed}
-use Rattle.lines.specs.Lines.{joined, figure, line, flowgateLine, gtlLine, flowLines, paymentLines}
-use Rattle.listing.specs.Listing.{listing}
+use Rattle.printout.specs.Lines.{joined, figure, line, flowgateLine, gtlLine, flowLines, paymentLines}
+use Rattle.printout.specs.Listing.{listing, refusalLine, shown}
 
 unfoldable pub statementS : Statement
 statementS =
@@ -54,3 +55,11 @@ listing-S =
       natural-computed 5000 tt,
       natural-computed 1328125 tt,
     )
+
+pub shown-15 : shown (refusedAs 15) ≡ ascii "refused 15\n"
+unfolding ascii digits decimal figure line refusalLine shown
+shown-15 = simp (natural-computed 15 tt)
+
+pub shown-1 : shown (refusedAs 1) ≡ ascii "refused 1\n"
+unfolding ascii digits decimal figure line refusalLine shown
+shown-1 = simp (natural-computed 1 tt)

@@ -1,7 +1,7 @@
 -- The lines of the printed statement (document 01, 'The printed statement'), in its order.
 use mathlib.Core.List.{List, [], _∷_, _++_}
 use Prim.Native.Nat.{ℕ}
-use lib.IntN.{ℤ, pos}
+use lib.IntN.{ℤ}
 use Rattle.writers.specs.Text.{ascii, decimal, unfilled, hexadecimal}
 
 -- texts one behind the other
@@ -47,7 +47,3 @@ paymentLines entitlement price amount nyiso pjm =
     ∷ line (ascii "PJM ") pjm
     ∷ []
     )
-
--- the one line of a refusal
-unfoldable pub refusalLine : ℕ → List ℕ
-refusalLine n = line (ascii "refused ") (pos n)
