@@ -26,10 +26,10 @@ use Rattle.figures.specs.Flow.{weightedOutput, weightedLoad, firstDividend, loa
 use Rattle.figures.specs.Payment.{inWatts, difference, amountOf, amount}
 use Rattle.figures.proofs.Balanced.{net-load-above, net-generation-above, final-generation-least, final-generation-most}
 use Rattle.figures.proofs.Factors.{par-factor-within}
-use Rattle.accuracy.specs.Fraction.{Fraction, entire, _⊕_, _⊖_, _⊗_, _⊘_, half, _≼_, Equals, Near}
+use Rattle.accuracy.specs.Fraction.{Fraction, entire, _⊕_, _⊖_, _⊗_, _⊘_, half, Equals, Near}
 use Rattle.accuracy.specs.Exact.{exactGenerationToLoad, exactCarriedTerm, exactRedirect, exactNonCommonRedirect, exactMarketFlow, exactDifference, exactAmountOf, exactAmount}
 use Rattle.accuracy.specs.Accurate.{flowBound, marketBound, amountBound, Accurate}
-use Rattle.accuracy.proofs.FractionLaws.{near-self, near-minus, near-wide, near-times, near-rounded, near-more, near-less, near-sum, entire-above}
+use Rattle.accuracy.proofs.FractionLaws.{_≼_, near-self, near-minus, near-wide, near-times, near-rounded, near-more, near-less, near-sum, entire-above}
 use Rattle.accuracy.proofs.PaymentLaws.{near-pay}
 
 -- a number that is not negative is its own size
