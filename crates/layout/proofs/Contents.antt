@@ -1,4 +1,4 @@
--- The content at the places: its lists' lengths and records, and one record more. Assumes nothing.
+-- The content at the places: its lists' lengths and records, and one record more.
 use Prim.Native.Nat.{ℕ, _+_, _≤_}
 use mathlib.Core.Path.{_≡_, refl, sym, _∙_}
 use mathlib.Core.Bool.{Bool, true, false}

@@ -1,4 +1,4 @@
--- Records that follow one another with no kind below the one before. Assumes nothing.
+-- Records that follow one another with no kind below the one before.
 use Prim.Native.Nat.{ℕ, _+_, _≤_, _<_}
 use mathlib.Core.Path.{_≡_, refl, sym, _∙_}
 use native.Mathlib.Omega.{arith}

@@ -1,4 +1,4 @@
--- The names of a kind's records, at their places and in the content. Assumes nothing.
+-- The names of a kind's records, at their places and in the content.
 use Prim.Native.Nat.{ℕ, zero, suc, _+_, _*_, _≤_}
 use mathlib.Core.Path.{_≡_, refl, sym, ap, _∙_}
 use mathlib.Core.Bool.{Bool, true, false, _||_, or-false, or-assoc}

@@ -1,4 +1,4 @@
--- Laws of the places at which records stand. Assumes nothing.
+-- Laws of the places at which records stand.
 use Prim.Native.Nat.{ℕ, zero, suc, _+_, _*_, _≤_, _<_}
 use mathlib.Core.Path.{_≡_, refl}
 use native.Mathlib.Numerals.{add-one}

@@ -1,4 +1,4 @@
--- Where the records of a sheet stand, by how many there are of each kind. Assumes nothing.
+-- Where the records of a sheet stand, by how many there are of each kind.
 use Prim.Native.Nat.{ℕ, zero, suc, _+_, _*_, _≤_}
 use mathlib.Core.Bool.{Bool, true, false}
 use mathlib.Core.List.{List}

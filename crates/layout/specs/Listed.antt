@@ -1,4 +1,4 @@
--- The index of names while a sheet is read: it holds the names of the last record's kind. Assumes nothing.
+-- The index of names while a sheet is read: it holds the names of the last record's kind.
 use Prim.Native.Nat.{ℕ, _+_, _-_, _≤_}
 use mathlib.Core.Path.{_≡_}
 use mathlib.Core.List.{List}

@@ -1,5 +1,16 @@
 // The records of an interval sheet (document 01, 'The interval sheet').
 
+// How many records of a kind there may be.
+pub const MOST_HEADS: usize = 1;
+
+pub const MOST_ZONES: usize = 32;
+
+pub const MOST_UNITS: usize = 256;
+
+pub const MOST_POINTS: usize = 32;
+
+pub const MOST_PARS: usize = 8;
+
 // The Monitoring RTO.
 pub const NYISO: u8 = 1;
 
@@ -74,4 +85,3 @@ pub struct Factor {
 }
 
 pub mod bodies;
-pub mod rows;

@@ -1,4 +1,4 @@
--- What an accepted sheet is: its content stands at the layout's places, and rows 1 to 13 leave of it what they should. Assumes nothing.
+-- What an accepted sheet is: its content stands at the layout's places, and rows 1 to 13 leave of it what they should.
 use Prim.Native.Nat.{ℕ, _+_, _-_, _≤_, _<_}
 use mathlib.Core.Path.{_≡_, refl, sym, _∙_}
 use mathlib.Core.Bool.{false, not}

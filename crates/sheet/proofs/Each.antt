@@ -1,4 +1,4 @@
--- Each record that has passed is fine, by its kind: its fields fit, and its name is well formed and new. Assumes nothing.
+-- Each record that has passed is fine, by its kind: its fields fit, and its name is well formed and new.
 use Prim.Native.Nat.{ℕ, _+_, _≤_, _<_}
 use mathlib.Core.Path.{_≡_, refl, ap, _∙_}
 use mathlib.Core.Bool.{Bool, true, false}

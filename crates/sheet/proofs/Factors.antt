@@ -1,4 +1,4 @@
--- The factors of a sheet are those due, in their order: a look-up by key finds the one that stands where its key is due. Assumes nothing.
+-- The factors of a sheet are those due, in their order: a look-up by key finds the one that stands where its key is due.
 use Prim.Native.Nat.{ℕ, zero, suc, _+_, _<_}
 use mathlib.Core.Path.{_≡_, refl, sym, _∙_}
 use mathlib.Core.Bool.{Bool, true, false, _&&_}

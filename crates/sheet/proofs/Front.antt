@@ -1,4 +1,4 @@
--- What rows 2 to 5 leave of a record. Assumes nothing.
+-- What rows 2 to 5 leave of a record.
 use Prim.Native.Nat.{ℕ, _≤_, _<_}
 use mathlib.Core.Path.{_≡_, refl}
 use mathlib.Core.Bool.{Bool, true, false, _&&_, cond}

@@ -1,4 +1,4 @@
--- A sheet's first 27,776 bytes decide: no accepted sheet is longer than 27,748 bytes, and in a longer one a record is refused that begins at or before that place. Assumes nothing.
+-- A sheet's first 27,776 bytes decide: no accepted sheet is longer than 27,748 bytes, and in a longer one a record is refused that begins at or before that place.
 use Prim.Native.Nat.{ℕ, zero, suc, _+_, _-_, _≤_, _<_}
 use mathlib.Core.Path.{_≡_, refl, sym, ap, _∙_}
 use mathlib.Core.List.{List, [], _∷_}

@@ -1,4 +1,4 @@
--- The names of an accepted sheet: well formed, and within a kind all different. Assumes nothing.
+-- The names of an accepted sheet: well formed, and within a kind all different.
 use Prim.Native.Nat.{ℕ, zero, suc, _≤_, _<_}
 use mathlib.Core.Path.{_≡_, refl}
 use mathlib.Core.Bool.{true, false}

@@ -1,4 +1,4 @@
--- What holds once the records before a place have all passed. Assumes nothing.
+-- What holds once the records before a place have all passed.
 use Prim.Native.Nat.{ℕ, _+_, _-_, _≤_, _<_}
 use mathlib.Core.Path.{_≡_, refl, sym, ap, _∙_}
 use mathlib.Core.Bool.{Bool, true, false}

@@ -1,4 +1,4 @@
--- Where a refusal points: the records before that place pass their rows, and the record there, or the sheet's end, meets the refusal's row. Assumes nothing.
+-- Where a refusal points: the records before that place pass their rows, and the record there, or the sheet's end, meets the refusal's row.
 use Prim.Native.Nat.{ℕ, _+_, _-_, _≤_, _<_}
 use mathlib.Core.Path.{_≡_, refl, sym}
 use mathlib.Core.Bool.{Bool, true, false}

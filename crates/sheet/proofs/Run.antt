@@ -1,4 +1,4 @@
--- Good factors that are due one behind the other all pass. Assumes nothing.
+-- Good factors that are due one behind the other all pass.
 use Prim.Native.Nat.{ℕ, zero, suc, _+_, _*_, _-_, _≤_, _<_}
 use mathlib.Core.Path.{_≡_, refl, sym, ap, _∙_}
 use mathlib.Core.Bool.{false}

@@ -1,4 +1,4 @@
--- Each answer of the reading says what it should of the sheet. Assumes nothing.
+-- Each answer of the reading says what it should of the sheet.
 use Prim.Native.Nat.{ℕ, zero, suc, _+_, _-_, _≤_, _<_}
 use mathlib.Core.Path.{_≡_, refl, sym, ap, _∙_}
 use mathlib.Core.Bool.{Bool, true, false, not, cond}

@@ -1,4 +1,4 @@
--- The reading, a record at a time. Assumes nothing.
+-- The reading, a record at a time.
 use Prim.Native.Nat.{ℕ, zero, suc, _+_, _≤_, _<_}
 use mathlib.Core.Path.{_≡_, refl, sym, ap, _∙_}
 use mathlib.Core.List.{List, [], _∷_}

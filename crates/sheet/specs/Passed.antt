@@ -1,4 +1,4 @@
--- What an answer says of the sheet: which records pass their rows, and which meets one. Assumes nothing.
+-- What an answer says of the sheet: which records pass their rows, and which meets one.
 use Prim.Native.Nat.{ℕ, _+_, _<_}
 use mathlib.Core.Path.{_≡_}
 use mathlib.Core.Bool.{cond}

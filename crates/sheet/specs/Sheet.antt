@@ -1,4 +1,4 @@
--- The interval sheet: which refusal it meets of rows 1 to 13, and what an accepted one holds (document 01, 'The interval sheet' and 'Where each refusal is checked'). Assumes nothing.
+-- The interval sheet: which refusal it meets of rows 1 to 13, and what an accepted one holds (document 01, 'The interval sheet' and 'Where each refusal is checked').
 use Prim.Native.Nat.{ℕ, zero, suc, _+_}
 use mathlib.Core.Bool.{Bool, false, not, _&&_, _||_, cond}
 use mathlib.Core.List.{List, [], _∷_}

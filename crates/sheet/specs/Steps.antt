@@ -1,4 +1,4 @@
--- Which factors pass in a run: what the contracts of the steps cite. Assumes nothing.
+-- Which factors pass in a run: what the contracts of the steps cite.
 use Prim.Native.Nat.{ℕ, _+_, _*_, _≤_, _<_}
 use mathlib.Core.Path.{_≡_}
 use mathlib.Core.Bool.{false}

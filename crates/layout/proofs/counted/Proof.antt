@@ -1,4 +1,4 @@
--- `counted` meets its contract: the counts stay far below their type's largest number. Assumes nothing.
+-- `counted` meets its contract: the counts stay far below their type's largest number.
 use native.Mathlib.Nat.{add-zero}
 use native.Mathlib.Omega.{arith}
 use borrow.Author.Needs.{needs}

@@ -1,4 +1,4 @@
--- `first_of` meets its contract. The loop's invariant: the kinds below k end at `first`. Assumes nothing.
+-- `first_of` meets its contract. The loop's invariant: the kinds below k end at `first`.
 use Prim.Native.Nat.{_+_, _*_, _-_, _≤_}
 use mathlib.Core.Path.{_≡_, sym}
 use native.Mathlib.Omega.{arith}

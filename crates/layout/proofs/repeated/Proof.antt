@@ -1,4 +1,4 @@
--- `repeated` meets its contract: the names at the places are the content's. Assumes nothing.
+-- `repeated` meets its contract: the names at the places are the content's.
 use Prim.Native.Nat.{_-_, _+_, _*_}
 use mathlib.Core.Path.{_≡_, sym, _∙_}
 use native.Mathlib.Omega.{arith}

@@ -1,4 +1,4 @@
--- `size_of` meets its contract. Assumes nothing.
+-- `size_of` meets its contract.
 use native.Mathlib.Omega.{arith}
 use borrow.Author.Needs.{needs}
 use Rattle.layout.proofs.ByKind.{length-most}

@@ -1,4 +1,4 @@
--- `end_row` meets its contract. Assumes nothing.
+-- `end_row` meets its contract.
 use borrow.Author.Needs.{needs}
 use Rattle.sheet.specs.Sheet.{endRow}
 use Rattle.sheet.proofs.end_row.Statement.{statement}

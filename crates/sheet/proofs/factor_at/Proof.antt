@@ -1,4 +1,4 @@
--- `factor_at` meets its contract: the factor stands where its key is due. Assumes nothing.
+-- `factor_at` meets its contract: the factor stands where its key is due.
 use Prim.Native.Nat.{_<_}
 use mathlib.Core.Path.{sym, _∙_}
 use native.Mathlib.Omega.{arith}

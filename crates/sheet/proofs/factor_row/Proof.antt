@@ -1,4 +1,4 @@
--- `factor_row` meets its contract: cut short, or the rows of the factor. Assumes nothing.
+-- `factor_row` meets its contract: cut short, or the rows of the factor.
 use borrow.Author.Tests.{lt-ltb, le-ltb}
 use borrow.Author.Needs.{needs}
 use Rattle.records.specs.Bodies.{byKind}

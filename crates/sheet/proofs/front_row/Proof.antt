@@ -1,4 +1,4 @@
--- `front_row` meets its contract. Assumes nothing.
+-- `front_row` meets its contract.
 use borrow.Author.Needs.{needs}
 use Rattle.sheet.specs.Sheet.{frontRow}
 use Rattle.sheet.proofs.front_row.Statement.{statement}

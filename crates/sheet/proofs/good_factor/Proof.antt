@@ -1,4 +1,4 @@
--- `good_factor` meets its contract. Assumes nothing.
+-- `good_factor` meets its contract.
 use Prim.Native.Nat.{ℕ, _<_}
 use mathlib.Core.Path.{sym, _∙_}
 use native.Mathlib.Omega.{arith}

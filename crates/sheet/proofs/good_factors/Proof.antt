@@ -1,4 +1,4 @@
--- `good_factors` meets its contract. Assumes nothing.
+-- `good_factors` meets its contract.
 use Prim.Native.Nat.{ℕ, _+_, _*_, _-_, _≤_, _<_}
 use mathlib.Core.Path.{_≡_}
 use native.Mathlib.Omega.{arith}

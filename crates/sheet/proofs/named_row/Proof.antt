@@ -1,4 +1,4 @@
--- `named_row` meets its contract, kind by kind. Assumes nothing.
+-- `named_row` meets its contract, kind by kind.
 use Prim.Native.Nat.{ℕ, _≤_}
 use mathlib.Core.Path.{_≡_, ap, _∙_}
 use borrow.Author.Needs.{needs}

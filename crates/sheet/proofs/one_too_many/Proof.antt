@@ -1,4 +1,4 @@
--- `one_too_many` meets its contract. Assumes nothing.
+-- `one_too_many` meets its contract.
 use mathlib.Core.Path.{sym}
 use lib.Dec.{eqb}
 use borrow.Author.Tests.{ne-eqb}

@@ -1,4 +1,4 @@
--- `par_at` meets its contract. Assumes nothing.
+-- `par_at` meets its contract.
 use native.Mathlib.Omega.{arith}
 use Rattle.records.specs.Bodies.{byKind}
 use Rattle.sheet.proofs.Accepted.{extent-is, par-is}

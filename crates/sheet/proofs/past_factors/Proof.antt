@@ -1,4 +1,4 @@
--- `past_factors` meets its contract: those of a run that are good pass. Assumes nothing.
+-- `past_factors` meets its contract: those of a run that are good pass.
 use Prim.Native.Nat.{_+_, _*_}
 use mathlib.Core.Path.{_≡_, sym, _∙_}
 use native.Mathlib.Omega.{arith}

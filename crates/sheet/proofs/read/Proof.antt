@@ -1,4 +1,4 @@
--- `read` meets its contract. The loop's invariant: the records before `at` have passed, and `l` counts them. Assumes nothing.
+-- `read` meets its contract. The loop's invariant: the records before `at` have passed, and `l` counts them.
 use Prim.Native.Nat.{_-_}
 use mathlib.Core.Path.{_≡_, sym, _∙_}
 use native.Mathlib.Omega.{arith}

@@ -1,4 +1,4 @@
--- `record_row` meets its contract: where rows 2 to 5 pass the body is whole and stands behind the others of its kind. Assumes nothing.
+-- `record_row` meets its contract: where rows 2 to 5 pass the body is whole and stands behind the others of its kind.
 use Prim.Native.Nat.{ℕ, _+_, _-_}
 use mathlib.Core.Path.{_≡_, sym, _∙_}
 use mathlib.Core.List.{List}

@@ -1,4 +1,4 @@
--- `zone_at` meets its contract. Assumes nothing.
+-- `zone_at` meets its contract.
 use native.Mathlib.Omega.{arith}
 use Rattle.records.specs.Bodies.{byKind}
 use Rattle.sheet.proofs.Accepted.{extent-is, zone-is}
