@@ -145,6 +145,18 @@ impl Interval {
         self.pars.len() - 1
     }
 
+    /// Gives the k-th zone, unit, point and PAR the k-th name, from 0.
+    pub fn rename(&mut self, name: impl Fn(usize) -> Name) {
+        let zones = self.zones.iter_mut().map(|zone| &mut zone.name);
+        zones.enumerate().for_each(|(k, to)| *to = name(k));
+        let units = self.units.iter_mut().map(|unit| &mut unit.name);
+        units.enumerate().for_each(|(k, to)| *to = name(k));
+        let points = self.points.iter_mut().map(|point| &mut point.name);
+        points.enumerate().for_each(|(k, to)| *to = name(k));
+        let pars = self.pars.iter_mut().map(|par| &mut par.name);
+        pars.enumerate().for_each(|(k, to)| *to = name(k));
+    }
+
     /// Sets all factors of units and zones to zero, so that no flow is rounded.
     pub fn flatten(&mut self) {
         for factors in [&mut self.flowgate].into_iter().chain(&mut self.on_pars) {

@@ -25,6 +25,13 @@ struct CStatement {
     pjm: i64,
 }
 
+/// The statement after row 23, and the listing's length.
+#[repr(C)]
+struct CPrinted {
+    statement: CStatement,
+    length: usize,
+}
+
 extern "C" {
     fn m2m_settle(
         sheet: *const u8,
@@ -32,14 +39,14 @@ extern "C" {
         list: *const u8,
         list_len: usize,
     ) -> CStatement;
-    fn m2m_settle_into(
+    fn m2m_report(
         sheet: *const u8,
         sheet_len: usize,
         list: *const u8,
         list_len: usize,
         out: *mut u8,
         out_len: usize,
-    ) -> CStatement;
+    ) -> CPrinted;
     fn m2m_read(sheet: *const u8, sheet_len: usize) -> ReadAnswer;
     fn m2m_entitlement(
         list: *const u8,
@@ -83,7 +90,7 @@ impl Side for Library {
 
     fn settle_into(&self, sheet: &[u8], list: &[u8], out: &mut [u8]) -> Statement {
         unsafe {
-            m2m_settle_into(
+            m2m_report(
                 sheet.as_ptr(),
                 sheet.len(),
                 list.as_ptr(),
@@ -92,6 +99,7 @@ impl Side for Library {
                 out.len(),
             )
         }
+        .statement
         .into()
     }
 

@@ -43,9 +43,15 @@ fn best(question: &Question) -> [f64; 2] {
 }
 
 fn row(what: &str, bytes: usize, question: Question) {
-    let [ours, rust] = best(&question);
+    row_of(what, bytes, 1, question);
+}
+
+/// A question that takes so many inputs: bytes and times are those of one.
+fn row_of(what: &str, bytes: usize, inputs: usize, question: Question) {
+    let [ours, rust] = best(&question).map(|time| time / inputs as f64);
     println!(
-        "{what:<46}{bytes:>8}{:>12.2}{:>12.2}{:>8.2}",
+        "{what:<46}{:>8}{:>12.2}{:>12.2}{:>8.2}",
+        bytes / inputs,
         ours / 1000.0,
         rust / 1000.0,
         ours / rust
@@ -53,13 +59,26 @@ fn row(what: &str, bytes: usize, question: Question) {
 }
 
 /// Settles with a buffer of the longest listing's length.
+fn settled(side: &dyn Side, sheet: &[u8], list: &[u8]) -> i64 {
+    let mut out = [0; LONGEST_LISTING];
+    let statement = side.settle_into(sheet, list, &mut out);
+    statement.amount + i64::from(statement.refusal) + i64::from(out[0])
+}
+
 fn settle_row(what: &str, sheet: &[u8], list: &[u8]) {
-    let question = |side: &dyn Side| {
-        let mut out = [0; LONGEST_LISTING];
-        let statement = side.settle_into(sheet, list, &mut out);
-        statement.amount + i64::from(statement.refusal) + i64::from(out[0])
-    };
+    let question = |side: &dyn Side| settled(side, sheet, list);
     row(what, sheet.len() + list.len(), Box::new(question));
+}
+
+/// Settles one after the other, each with its list of one entry.
+fn in_turn(what: &str, intervals: &[Interval]) {
+    let inputs: Vec<(Vec<u8>, Vec<u8>)> = intervals
+        .iter()
+        .map(|it| (it.records().concat(), draft::entitlement(it.name, 5)))
+        .collect();
+    let bytes = inputs.iter().map(|(s, l)| s.len() + l.len()).sum();
+    let question = |side: &dyn Side| inputs.iter().map(|(s, l)| settled(side, s, l)).sum();
+    row_of(what, bytes, inputs.len(), Box::new(question));
 }
 
 fn read_row(what: &str, sheet: &[u8]) {
@@ -94,19 +113,8 @@ fn interval(chance: &mut Chance, sizes: Sizes, rising: bool) -> Interval {
     };
     loop {
         let mut interval = drawn(chance, sizes, scale);
-        let named = |chance: &mut Chance, count| names(chance, count, rising).into_iter();
-        let zones = interval.zones.iter_mut().map(|zone| &mut zone.name);
-        zones
-            .zip(named(chance, 32))
-            .for_each(|(to, name)| *to = name);
-        let units = interval.units.iter_mut().map(|unit| &mut unit.name);
-        units
-            .zip(named(chance, 256))
-            .for_each(|(to, name)| *to = name);
-        let points = interval.points.iter_mut().map(|point| &mut point.name);
-        points
-            .zip(named(chance, 32))
-            .for_each(|(to, name)| *to = name);
+        let names = names(chance, 256, rising);
+        interval.rename(|k| names[k]);
         let list = draft::entitlement(interval.name, 0);
         if Second.settle(&interval.records().concat(), &list).refusal == 0 {
             return interval;
@@ -164,6 +172,76 @@ fn growth(chance: &mut Chance) {
     }
 }
 
+/// Different shapes and values in turn, so that no branch is learnt.
+fn eight(chance: &mut Chance) {
+    let shapes = |shapes: [[usize; 4]; 8], chance: &mut Chance| {
+        shapes.map(|[zones, units, points, pars]| {
+            let sizes = Sizes {
+                zones,
+                units,
+                points,
+                pars,
+            };
+            interval(chance, sizes, false)
+        })
+    };
+    let long = [
+        [32, 256, 32, 8],
+        [27, 241, 30, 8],
+        [32, 199, 25, 7],
+        [19, 256, 32, 6],
+        [30, 225, 17, 8],
+        [24, 250, 28, 7],
+        [32, 213, 31, 8],
+        [21, 237, 22, 8],
+    ];
+    let short = [
+        [2, 2, 2, 1],
+        [1, 3, 0, 0],
+        [3, 5, 1, 2],
+        [2, 7, 3, 0],
+        [4, 4, 2, 1],
+        [1, 1, 1, 1],
+        [5, 9, 0, 1],
+        [2, 6, 4, 2],
+    ];
+    in_turn("eight long sheets in turn, each", &shapes(long, chance));
+    in_turn("eight short sheets in turn, each", &shapes(short, chance));
+}
+
+/// Names that share a bucket of the hash on both sides, whatever the table's size.
+/// Ours adds the remainders of both halves and keeps the lowest twelve bits (fewer in
+/// smaller tables); the Rust implementation's folds the halves into one word, so that
+/// names of one folded word have one hash.
+fn one_bucket(chance: &mut Chance, count: usize) -> Vec<Name> {
+    const FOLDED: u64 = 0x5a17_c3e9_0b64_d28f;
+    const BUCKET: u64 = 0x2b5;
+    let whole = |half: u64| half.to_be_bytes().iter().all(|byte| *byte != 0);
+    let mut names = Vec::with_capacity(count);
+    while names.len() < count {
+        let high = chance.draw();
+        let low = high.rotate_left(29) ^ FOLDED;
+        if (high % 65_521 + low % 65_519) & 4_095 == BUCKET && whole(high) && whole(low) {
+            names.push(((u128::from(high) << 64) | u128::from(low)).to_be_bytes());
+        }
+    }
+    names
+}
+
+/// The slowest names that anyone can write.
+fn crafted(chance: &mut Chance) {
+    let names = one_bucket(chance, 2_500);
+    let entries = names.iter().map(|name| draft::entitlement(*name, 5));
+    let list = entries.collect::<Vec<_>>().concat();
+    list_row("2,500 entries alone, one bucket", &list, &names[1250]);
+    let mut interval = interval(chance, Sizes::LONGEST, false);
+    interval.rename(|k| names[k]);
+    let sheet = interval.records().concat();
+    let one = draft::entitlement(interval.name, 5);
+    settle_row("longest sheet, one entry, one bucket", &sheet, &one);
+    read_row("longest sheet, reading alone, one bucket", &sheet);
+}
+
 fn main() {
     let chance = &mut Chance::of(2024, 1);
     println!("Microseconds, best of {ROUNDS} rounds; a buffer of {LONGEST_LISTING} bytes.");
@@ -176,4 +254,8 @@ fn main() {
     longest(chance, "rising", true);
     println!("From small sheets to the longest, one entry, random names:");
     growth(chance);
+    println!("Different sheets, one entry each, random names:");
+    eight(chance);
+    println!("Crafted names:");
+    crafted(chance);
 }

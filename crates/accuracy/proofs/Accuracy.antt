@@ -1,4 +1,4 @@
--- The accuracy rule, proved: every content that passes rows 1 to 13 and 16 to 21 is accurate. Assumes nothing.
+-- The accuracy rule, proved: every content that passes rows 1 to 13 and 16 to 21 is accurate.
 use Prim.Native.Nat.{ℕ, zero, suc, _+_, _<_}
 use native.Mathlib.Omega.{arith}
 use mathlib.Core.Path.{_≡_, refl, ap}
@@ -21,12 +21,12 @@ use Rattle.records.specs.declared.Head.{Head}
 use Rattle.records.specs.Content.{Content, head, par}
 use Rattle.records.specs.Valid.{Valid}
 use Rattle.figures.specs.Balance.{netLoad, netGeneration, finalGeneration, grossOutput, balanceRow}
-use Rattle.figures.specs.Flow.{common, noncommon, weightedOutput, weightedLoad, firstDividend, loadShare, firstRemainder, grossFlow, secondDividend, generationToLoad, secondRemainder, parallel, shadow, parFactor, control, carriedTerm, carriedSum, carried, redirect, nyisoMonitors, nonCommonRedirect, marketFlow, settlementFlow}
-use Rattle.figures.specs.Payment.{inWatts, difference, amountOf, counts, amount}
+use Rattle.figures.specs.Flow.{common, noncommon, weightedOutput, weightedLoad, firstDividend, loadShare, firstRemainder, grossFlow, secondDividend, generationToLoad, secondRemainder, parallel, shadow, parFactor, control, carriedTerm, carriedSum, carried, redirect, nyisoMonitors, nonCommonRedirect, marketFlow}
+use Rattle.figures.specs.Payment.{inWatts, difference, amountOf, amount}
 use Rattle.figures.proofs.Balanced.{net-load-above, net-generation-above, final-generation-least, final-generation-most}
 use Rattle.figures.proofs.Factors.{par-factor-within}
 use Rattle.accuracy.specs.Fraction.{Fraction, entire, _⊕_, _⊖_, _⊗_, _⊘_, half, _≼_, Equals, Near}
-use Rattle.accuracy.specs.Exact.{exactGenerationToLoad, exactCarriedTerm, exactRedirect, exactNonCommonRedirect, exactMarketFlow, exactSettlementFlow, exactDifference, exactAmountOf, exactAmount}
+use Rattle.accuracy.specs.Exact.{exactGenerationToLoad, exactCarriedTerm, exactRedirect, exactNonCommonRedirect, exactMarketFlow, exactDifference, exactAmountOf, exactAmount}
 use Rattle.accuracy.specs.Accurate.{flowBound, marketBound, amountBound, Accurate}
 use Rattle.accuracy.proofs.FractionLaws.{near-self, near-minus, near-wide, near-times, near-rounded, near-more, near-less, near-sum, entire-above}
 use Rattle.accuracy.proofs.PaymentLaws.{near-pay}
@@ -175,11 +175,11 @@ module _ (c : Content) (v : Valid c) (e : balanceRow c ≡ 0) where
       (near-minus (near-minus (near-more (shadow c 0) (near-more (parallel c 0) (flow-close 0))) (redirect-close common)) non-common-close)
 
   pub difference-close : (entitlement : ℤ) → Near (difference c entitlement) (exactDifference c entitlement) (entire (marketBound c))
-  unfolding difference exactDifference settlementFlow exactSettlementFlow
+  unfolding difference exactDifference
   difference-close entitlement = near-less (inWatts entitlement) market-close
 
   pub accurate : (entitlement : ℤ) → Accurate c entitlement
-  unfolding amount exactAmount counts
+  unfolding amount exactAmount
   accurate entitlement = record {
     flow-exact = λ target l. flow-iff target;
     flow-near = λ target l. flow-close target;

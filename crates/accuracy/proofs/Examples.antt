@@ -1,4 +1,4 @@
--- The exact figures of document 01's examples, of sheet S, and of a sheet whose exact price is another than the one taken. Assumes nothing.
+-- The exact figures of document 01's examples, of sheet S, and of a sheet whose exact price is another than the one taken.
 use Prim.Native.Nat.{_+_}
 use native.Mathlib.Omega.{arith}
 use mathlib.Core.Path.{_≡_, refl}
@@ -12,17 +12,17 @@ use Rattle.records.specs.Content.{Content, head}
 use Rattle.records.specs.Valid.{Valid}
 use Rattle.figures.specs.Balance.{balanceRow}
 use Rattle.figures.specs.Flow.{common, noncommon, marketFlow}
-use Rattle.figures.specs.Payment.{priceTaken, amount}
+use Rattle.figures.specs.Payment.{difference, price, amount}
 use Rattle.figures.proofs.Examples.{printed, refused, headOf, zoneOf, unitOf, pointOf, parOf, factorOf, plain, sheetS, thirds, exporting}
 use Rattle.figures.proofs.Accepted.{proxy-fits, dueCount, valid-of, s-valid, s-balanced}
 use Rattle.accuracy.specs.Fraction.{Fraction, entire, _⊕_, _⊖_, _⊗_, _⊘_, sumOf, Equals, Near}
-use Rattle.accuracy.specs.Exact.{exactGenerationToLoad, exactCarriedTerm, exactRedirect, exactNonCommonRedirect, exactMarketFlow, exactSettlementFlow, exactDifference, exactPrice, exactAmountOf, exactAmount}
+use Rattle.accuracy.specs.Exact.{exactGenerationToLoad, exactCarriedTerm, exactRedirect, exactNonCommonRedirect, exactMarketFlow, exactDifference, exactPrice, exactAmountOf, exactAmount}
 use Rattle.accuracy.specs.Accurate.{marketBound, Accurate}
 use Rattle.accuracy.proofs.Accuracy.{accurate}
 
 -- the exact amount, and all that it goes through
 unfoldable settled : Content → ℤ → Fraction
-unfolding printed entire _⊕_ _⊖_ _⊗_ _⊘_ sumOf exactGenerationToLoad exactCarriedTerm exactRedirect exactNonCommonRedirect exactMarketFlow exactSettlementFlow exactDifference exactPrice exactAmountOf exactAmount
+unfolding printed entire _⊕_ _⊖_ _⊗_ _⊘_ sumOf exactGenerationToLoad exactCarriedTerm exactRedirect exactNonCommonRedirect exactMarketFlow exactDifference exactPrice exactAmountOf exactAmount
 settled c entitlement = exactAmount c entitlement
 
 -- content; numerator and denominator of the exact generation-to-load flow
@@ -58,7 +58,7 @@ brink-balanced = refl
 pub brink-accurate : Accurate brink (pos 1)
 brink-accurate = accurate brink brink-valid brink-balanced (pos 1)
 
-pub brink-prices : marketFlow brink ∷ priceTaken brink (pos 1) ∷ exactPrice (head brink) (exactDifference brink (pos 1)) ∷ [] ≡ pos 100000 ∷ pos 0 ∷ pos 400000 ∷ []
+pub brink-prices : marketFlow brink ∷ price (head brink) (difference brink (pos 1)) ∷ exactPrice (head brink) (exactDifference brink (pos 1)) ∷ [] ≡ pos 100000 ∷ pos 0 ∷ pos 400000 ∷ []
 unfolding settled
 brink-prices = refl
 

@@ -1,4 +1,4 @@
--- How near a whole number is to a fraction, through sums, products and rounded quotients. Assumes nothing.
+-- How near a whole number is to a fraction, through sums, products and rounded quotients.
 -- Of the rounded quotient only its laws `whole` and `near` are used.
 use Prim.Native.Nat.{ℕ, zero, suc, _*_, _<_}
 use native.Mathlib.Nat.{one-mul}

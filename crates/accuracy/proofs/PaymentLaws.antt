@@ -1,4 +1,4 @@
--- A difference times its own price rises with the difference, by at most the dearer price. Assumes nothing.
+-- A difference times its own price rises with the difference, by at most the dearer price.
 use Prim.Native.Nat.{ℕ, zero, suc}
 use native.Mathlib.Omega.{arith}
 use mathlib.Core.Path.{_≡_, sym, ap, _∙_}

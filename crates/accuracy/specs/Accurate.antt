@@ -1,4 +1,4 @@
--- The accuracy rule: which flows are exact, and how far each figure is from the exact one at most. Assumes nothing.
+-- The accuracy rule: which flows are exact, and how far each figure is from the exact one at most.
 use Prim.Native.Nat.{ℕ, _+_, _≤_, max}
 use mathlib.Core.Path.{_≡_}
 use mathlib.Core.Logic.{_↔_}
@@ -34,5 +34,6 @@ pub record Accurate (c : Content) (entitlement : ℤ) : Type 0 where
       Equals (generationToLoad c target) (exactGenerationToLoad c target) ↔ netLoad c *ℤ secondRemainder c target ≡ finalGeneration c *ℤ firstRemainder c target
   pub flow-near : (target : ℕ) → target ≤ length (c .pars) → Near (generationToLoad c target) (exactGenerationToLoad c target) (entire flowBound)
   pub market-near : Near (marketFlow c) (exactMarketFlow c) (entire (marketBound c))
+  -- `exactPrice` goes by the numerator's sign, which is the exact difference's own only where the denominator is above zero
   pub difference-above : pos 0 <ℤ exactDifference c entitlement .denominator
   pub amount-near : Near (amount c entitlement) (exactAmount c entitlement) (amountBound (head c) (marketBound c))

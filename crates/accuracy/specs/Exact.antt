@@ -1,4 +1,4 @@
--- Document 01, 'From balance to flow' and 'The payment', with no rounding anywhere. Only whole sums of the sheet occur here. Assumes nothing.
+-- Document 01, 'From balance to flow' and 'The payment', with no rounding anywhere. Only whole sums of the sheet occur here.
 use Prim.Native.Nat.{ℕ, _+_}
 use mathlib.Core.Bool.{cond}
 use lib.Dec.{eqb}
@@ -32,12 +32,8 @@ exactNonCommonRedirect c = cond (nyisoMonitors c) (entire (pos 0)) (exactRedirec
 unfoldable pub exactMarketFlow : Content → Fraction
 exactMarketFlow c = exactGenerationToLoad c 0 ⊕ entire (parallel c 0) ⊕ entire (shadow c 0) ⊖ exactRedirect c common ⊖ exactNonCommonRedirect c
 
--- the flow that is paid on, at an entitlement: the market flow, whatever the entitlement
-unfoldable pub exactSettlementFlow : Content → ℤ → Fraction
-exactSettlementFlow c entitlement = exactMarketFlow c
-
 unfoldable pub exactDifference : Content → ℤ → Fraction
-exactDifference c entitlement = exactSettlementFlow c entitlement ⊖ entire (inWatts entitlement)
+exactDifference c entitlement = exactMarketFlow c ⊖ entire (inWatts entitlement)
 
 -- the exact difference's own sign decides: with a denominator above zero it is the numerator's
 unfoldable pub exactPrice : Head → Fraction → ℤ

@@ -1,4 +1,4 @@
--- Exact figures are fractions, judged in whole numbers after multiplying by the denominators. Assumes nothing.
+-- Exact figures are fractions, judged in whole numbers after multiplying by the denominators.
 use Prim.Native.Nat.{ℕ, zero, suc}
 use mathlib.Core.Path.{_≡_}
 use lib.IntN.{ℤ, pos, natAbs, _+ℤ_, _-ℤ_, _*ℤ_}

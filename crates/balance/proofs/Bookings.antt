@@ -1,4 +1,4 @@
--- Bookings of an accepted sheet fit, and the sums by number grow by one booking at a time. Assumes nothing.
+-- Bookings of an accepted sheet fit, and the sums by number grow by one booking at a time.
 use Prim.Native.Nat.{ℕ, zero, suc, _+_, _*_, _≤_, _<_}
 use mathlib.Core.Path.{_≡_, refl, sym, ap, _∙_}
 use mathlib.Core.Bool.{Bool, true, false, cond}
@@ -17,7 +17,7 @@ use Rattle.records.specs.declared.Place.the-variants.{Proxy, Line}
 use Rattle.records.specs.Content.{Content, zone, unit, point}
 use Rattle.records.specs.Valid.{Valid, LineFits, PointFits}
 use Rattle.balance.specs.declared.Booking.{Booking}
-use Rattle.balance.specs.Ledger.{loads, outputs, imports, exports, numberOf, pointBooking, bookingOf, bookings, bookedAt, sumAt, Sums, Small}
+use Rattle.balance.specs.inner.Ledger.{loads, outputs, imports, exports, numberOf, pointBooking, bookingOf, bookings, bookedAt, sumAt, Sums, Small}
 
 pub record BookingFits (b : Booking) : Type 0 where
   pub number : b .number < 33

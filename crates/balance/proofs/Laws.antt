@@ -1,4 +1,4 @@
--- The ledgers' sums are the figures of steps 1 and 2. Assumes nothing.
+-- The ledgers' sums are the figures of steps 1 and 2.
 use Prim.Native.Nat.{ℕ, _+_, _-_, _<_, _≤_}
 use mir.Syntax.{w64}
 use mir.Val.{toZ}
@@ -19,7 +19,7 @@ use Rattle.records.specs.declared.Place.the-variants.{Proxy, Line}
 use Rattle.records.specs.Content.{Content, zone, unit, point}
 use Rattle.records.specs.Valid.{Valid, LineFits}
 use Rattle.figures.specs.Balance.{onLine, atProxy, totalLoad, importInto, lineImports, zoneLoad, netLoad, proxyImport, proxyImports, finalLoad, output, outputIn, zoneOutput, exportFrom, lineExports, zoneGeneration, netGeneration, proxyExport, proxyExports, finalGeneration, grossOutput, grossLoad}
-use Rattle.balance.specs.Ledger.{loads, outputs, imports, exports, numberOf, pointBooking, bookingOf, bookings, bookedAt, sumAt, Sums, Small, netAt}
+use Rattle.balance.specs.inner.Ledger.{loads, outputs, imports, exports, numberOf, pointBooking, bookingOf, bookings, bookedAt, sumAt, Sums, Small, netAt}
 
 -- a booking at a zone's number, and at the proxies'
 line-is : (p : Place) (z x : ℕ) → cond (eqb (numberOf p) (z + 1)) (pos x) (pos 0) ≡ onLine p (z + 1) x

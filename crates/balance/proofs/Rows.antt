@@ -1,4 +1,4 @@
--- The two sides are the content's loads and generation, and their rows the balance's. Assumes nothing.
+-- The two sides are the content's loads and generation, and their rows the balance's.
 use Prim.Native.Nat.{ℕ, _+_, _<_, _≤_}
 use mathlib.Core.Path.{_≡_, refl, sym, ap, ap₂, _∙_}
 use mathlib.Core.List.{List}
@@ -13,8 +13,8 @@ use Rattle.records.specs.Valid.{Valid}
 use Rattle.figures.specs.Balance.{totalLoad, zoneLoad, netLoad, finalLoad, zoneOutput, zoneGeneration, netGeneration, finalGeneration, grossOutput, grossLoad, atLeastZero, grossAboveLimit, zoneLoadBelowZero, finalLoadNotAboveZero, zoneGenerationBelowZero, netGenerationZero, finalGenerationBelowZero, balanceRow}
 use Rattle.figures.proofs.Bounds.{gross-output-is}
 use Rattle.balance.specs.declared.Side.{Side}
-use Rattle.balance.specs.Ledger.{loads, outputs, imports, exports, Sums, netAt, ZoneLoads}
-use Rattle.balance.specs.Balance.{sideOf, grossRow, loadRow, generationRow, rowOf}
+use Rattle.balance.specs.inner.Ledger.{loads, outputs, imports, exports, Sums, netAt, ZoneLoads}
+use Rattle.balance.specs.inner.Balance.{sideOf, grossRow, loadRow, generationRow, rowOf}
 use Rattle.balance.proofs.Laws.{outputs-are, imports-are, exports-are, loads-are, proxy-imports-are, proxy-exports-are}
 use Rattle.balance.proofs.Bookings.{zeros, small-of}
 

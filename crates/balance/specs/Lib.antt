@@ -1,2 +1,1 @@
-pub mod Ledger
-pub mod Balance
+pub mod inner

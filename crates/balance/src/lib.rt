@@ -5,8 +5,8 @@ ghost use Rattle.integers.specs.Sum.{sumTo, allTo};
 ghost use Rattle.figures.specs.Balance.{atLeastZero, isZero};
 ghost use Rattle.sheet.specs.Sheet.{readSheet, contentOf};
 ghost use Rattle.sheet.specs.declared.Outcome.the-variants.{Accepted};
-ghost use Rattle.balance.specs.Ledger.{numberOf, pointBooking, bookingOf, bookings, Sums, Small, netAt, loads, imports};
-ghost use Rattle.balance.specs.Balance.{sideOf, grossRow, loadRow, generationRow, rowOf, balanceOf};
+ghost use Rattle.balance.specs.inner.Ledger.{numberOf, pointBooking, bookingOf, bookings, Sums, Small, netAt, loads, imports};
+ghost use Rattle.balance.specs.inner.Balance.{sideOf, grossRow, loadRow, generationRow, rowOf, balanceOf};
 
 // The ledgers.
 pub const LOADS: u8 = 0;

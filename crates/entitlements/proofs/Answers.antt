@@ -1,4 +1,4 @@
--- What an answer says of the list: found, missing, refused; and that the first bytes of a long file are enough. Assumes nothing.
+-- What an answer says of the list: found, missing, refused; and that the first bytes of a long file are enough.
 use Prim.Native.Nat.{ℕ, _*_, _≤_, _<_}
 use mathlib.Core.Path.{_≡_, refl, sym, _∙_}
 use mathlib.Core.Bool.{true, false, true≢false}
@@ -66,7 +66,7 @@ look-not-14 (e ∷ es) name h =
     either (sameList (e .name) name) (λ p. found-not-refused (rw p at h)) (λ p. look-not-14 es name (rw p at h))
 
 -- so it is found by its name
-look-kept : {es fs : List Entry} (name : List ℕ) (v : ℤ) → Pass es fs → Holds fs (entry name v) → lookUp fs name ≡ Found v
+look-kept : {es : List (List ℕ)} {fs : List Entry} (name : List ℕ) (v : ℤ) → Pass es fs → Holds fs (entry name v) → lookUp fs name ≡ Found v
 unfolding lookUp
 look-kept name v none m = absurd (List·Memᴰ·not-nil m)
 look-kept name v (one {fs = fs} {e = e} k p) m =

@@ -1,28 +1,28 @@
--- Row 14 on one record: what it leaves of a record that passes, and the conditions as the code tests them. Assumes nothing.
-use Prim.Native.Nat.{ℕ, zero, suc, _+_, _*_, _≤_, _<_}
+-- Row 14 on one record: what it leaves of a record that passes, and the conditions as the code tests them.
+use Prim.Native.Nat.{ℕ, _≤_, _<_}
 use mathlib.Core.Path.{_≡_, refl, _∙_}
-use mathlib.Core.Bool.{Bool, true, false, _||_, or-assoc, or-comm, or-false, or-true}
+use mathlib.Core.Bool.{Bool, true, false, not, _||_, or-assoc, or-false, or-true}
 use mathlib.Core.List.{List}
 use native.Mathlib.Omega.{arith}
 use borrow.Author.Tests.{eq-eqb, eqb-true, le-leb, le-ltb, leb-false, lt-leb, lt-ltb, ltb-false, not-false}
+use lib.Dec.{eqb}
 use lib.IntN.{natAbs}
 use lib.ListN.{length}
 use lib.Seq.{length-take-le}
-use Rattle.names.specs.Names.{among, nameAt, nameOk, sameList}
-use Rattle.names.proofs.Laws.{among-last}
-use Rattle.entitlements.specs.Entitlements.{Entry, entryKind, bodyLength, recordLength, mostRecords, mostValue, entryOf, cutShort, otherKind, badName, outOfRange, repeated, surplus, recordFault}
-use Rattle.entitlements.specs.Steps.{firstEntries}
+use Rattle.names.specs.Names.{badName, nameOk, seenBefore}
+use Rattle.rows.specs.Rows.{beyond}
+use Rattle.entitlements.specs.Entitlements.{Entry, entryKind, bodyLength, recordLength, mostRecords, mostValue, entryOf, recordFault}
 
 -- an entry that passes behind the entries es
-pub record Kept (es : List Entry) (e : Entry) : Type 0 where
+pub record Kept (es : List (List ℕ)) (e : Entry) : Type 0 where
   pub sized : length (e .name) ≡ 16
   pub named : nameOk (e .name) ≡ true
   pub range : natAbs (e .value) ≤ mostValue
-  pub new : repeated es (e .name) ≡ false
+  pub new : seenBefore es (e .name) ≡ false
   pub room : length es < mostRecords
 
 -- a record that passes, of kind k with r behind its kind byte
-pub record Passes (es : List Entry) (k : ℕ) (r : List ℕ) : Type 0 where
+pub record Passes (es : List (List ℕ)) (k : ℕ) (r : List ℕ) : Type 0 where
   pub whole : bodyLength ≤ length r
   pub kind : k ≡ entryKind
   pub kept : Kept es (entryOf r)
@@ -36,13 +36,13 @@ pub or-none : (a b : Bool) → (a || b) ≡ false → (a ≡ false) × (b ≡ fa
 or-none true b e = absurd (let z : _≡_ {A = ℕ} 0 1 = cc in omega arith)
 or-none false b e = (refl, e)
 
-module _ (es : List Entry) (k : ℕ) (r : List ℕ) where
+module _ (es : List (List ℕ)) (k : ℕ) (r : List ℕ) where
   name-sized : bodyLength ≤ length r → length (entryOf r .name) ≡ 16
   unfolding entryOf
   name-sized h = length-take-le 16 r (omega arith)
 
   pub passes : recordFault es k r ≡ false → Passes es k r
-  unfolding recordFault cutShort otherKind badName outOfRange surplus
+  unfolding recordFault
   passes e =
       let a = or-none _ _ e in
       let b = or-none _ _ (a .0) in
@@ -57,35 +57,26 @@ module _ (es : List Entry) (k : ℕ) (r : List ℕ) where
       }
 
   pub no-fault : Passes es k r → recordFault es k r ≡ false
-  unfolding recordFault cutShort otherKind badName outOfRange surplus
+  unfolding recordFault
   no-fault p =
       let q = p .kept in
       rw (le-ltb (length r) bodyLength (p .whole), eq-eqb k entryKind (p .kind), q .named, le-ltb mostValue _ (q .range), q .new, lt-leb mostRecords (length es) (q .room))
 
   pub fault-cut : length r < bodyLength → recordFault es k r ≡ true
-  unfolding recordFault cutShort
+  unfolding recordFault
   fault-cut h = rw (lt-ltb _ _ h)
 
   pub fault-full : mostRecords ≤ length es → recordFault es k r ≡ true
-  unfolding recordFault surplus
+  unfolding recordFault
   fault-full h = rw (le-leb mostRecords (length es) h, or-true)
 
-  pub fault-twice : repeated es (entryOf r .name) ≡ true → recordFault es k r ≡ true
+  pub fault-twice : seenBefore es (entryOf r .name) ≡ true → recordFault es k r ≡ true
   unfolding recordFault
   fault-twice e = rw (e, or-true)
 
   -- of a whole record with a new name, where there is room for it, kind, name and value are left to test; the last two are tested together
-  pub fault-new : bodyLength ≤ length r → length es < mostRecords → repeated es (entryOf r .name) ≡ false →
-      recordFault es k r ≡ (otherKind k || (badName (entryOf r .name) || outOfRange (entryOf r .value)))
-  unfolding recordFault cutShort surplus
+  pub fault-new : bodyLength ≤ length r → length es < mostRecords → seenBefore es (entryOf r .name) ≡ false →
+      recordFault es k r ≡ (not (eqb k entryKind) || (badName (entryOf r .name) || beyond mostValue (entryOf r .value)))
+  unfolding recordFault
   fault-new h g e =
-      rw (le-ltb (length r) bodyLength h, lt-leb mostRecords (length es) g, e, or-false, or-false) (or-assoc (otherKind k) (badName (entryOf r .name)) (outOfRange (entryOf r .value)))
-
--- a name among those of the first n records: the code goes forwards, the definition back from the latest
-pub seen-repeated : (s name : List ℕ) (n : ℕ) → among s name 1 recordLength n ≡ repeated (firstEntries s n) name
-unfolding repeated firstEntries entryOf among
-seen-repeated s name zero = refl
-seen-repeated s name (suc n) =
-    let e : recordLength * n + 1 ≡ 1 + recordLength * n = omega arith in
-    among-last s name 1 recordLength n
-    ∙ rw (seen-repeated s name n, e) (or-comm (repeated (firstEntries s n) name) (sameList (nameAt s (1 + recordLength * n)) name))
+      rw (le-ltb (length r) bodyLength h, lt-leb mostRecords (length es) g, e, or-false, or-false) (or-assoc (not (eqb k entryKind)) (badName (entryOf r .name)) (beyond mostValue (entryOf r .value)))

@@ -1,12 +1,13 @@
--- The entitlement list (document 01, 'The interval sheet'): its entries, rows 14 and 15. Assumes nothing.
+-- The entitlement list (document 01, 'The interval sheet'): its entries, rows 14 and 15.
 use Prim.Native.Nat.{ℕ, zero, suc, _+_}
 use mathlib.Core.Bool.{Bool, false, not, _||_, cond}
 use mathlib.Core.List.{List, [], _∷_}
-use lib.Dec.{eqb, ltb, leb}
-use lib.IntN.{ℤ, natAbs}
+use lib.Dec.{eqb, leb}
+use lib.IntN.{ℤ}
 use lib.ListN.{length}
 use Rattle.fields.specs.Fields.{sbe32}
-use Rattle.names.specs.Names.{nameOk, sameList, nameAt}
+use Rattle.rows.specs.Rows.{cutShort, beyond}
+use Rattle.names.specs.Names.{badName, sameList, seenBefore, nameAt}
 use Rattle.entitlements.specs.declared.Entitlement.{Entitlement}
 use Rattle.entitlements.specs.declared.Entitlement.the-variants.{Found, Refused}
 
@@ -37,37 +38,22 @@ mostValue = 100000
 unfoldable pub entryOf : List ℕ → Entry
 entryOf b = record { name = nameAt b 0; value = sbe32 b 16 }
 
--- Row 14, condition by condition, on a record of kind k with r behind its kind byte, after the entries es (the latest first)
-unfoldable pub cutShort : List ℕ → Bool
-cutShort r = ltb (length r) bodyLength
-
-unfoldable pub otherKind : ℕ → Bool
-otherKind k = not (eqb k entryKind)
-
--- not a name by row 6
-unfoldable pub badName : List ℕ → Bool
-badName name = not (nameOk name)
-
-unfoldable pub outOfRange : ℤ → Bool
-outOfRange value = ltb mostValue (natAbs value)
-
-unfoldable pub repeated : List Entry → List ℕ → Bool
-repeated [] name = false
-repeated (e ∷ es) name = sameList (e .name) name || repeated es name
-
--- a record after the 2,500th
-unfoldable pub surplus : List Entry → Bool
-surplus es = leb mostRecords (length es)
-
-unfoldable pub recordFault : List Entry → ℕ → List ℕ → Bool
-recordFault es k r =
-    cutShort r || otherKind k || badName (entryOf r .name) || outOfRange (entryOf r .value) || repeated es (entryOf r .name) || surplus es
+-- row 14 on a record of kind k with r behind its kind byte, after records with the names `earlier` (the latest first):
+-- cut short, other kind, name as 6, value out of range, name repeated, or a record after the 2,500th
+unfoldable pub recordFault : List (List ℕ) → ℕ → List ℕ → Bool
+recordFault earlier k r =
+    cutShort bodyLength (length r)
+    || not (eqb k entryKind)
+    || badName (entryOf r .name)
+    || beyond mostValue (entryOf r .value)
+    || seenBefore earlier (entryOf r .name)
+    || leb mostRecords (length earlier)
 
 -- a record from here on meets row 14; of the record before, `skip` bytes are still to come
-unfoldable pub anyFault : List Entry → ℕ → List ℕ → Bool
-anyFault es skip [] = false
-anyFault es (suc skip) (b ∷ r) = anyFault es skip r
-anyFault es zero (k ∷ r) = recordFault es k r || anyFault (entryOf r ∷ es) bodyLength r
+unfoldable pub anyFault : List (List ℕ) → ℕ → List ℕ → Bool
+anyFault earlier skip [] = false
+anyFault earlier (suc skip) (b ∷ r) = anyFault earlier skip r
+anyFault earlier zero (k ∷ r) = recordFault earlier k r || anyFault (entryOf r .name ∷ earlier) bodyLength r
 
 abbrev pub row14 : List ℕ → Bool
 row14 s = anyFault [] 0 s

@@ -1,2 +1,2 @@
 pub mod Entitlements
-pub mod Steps
+pub mod inner

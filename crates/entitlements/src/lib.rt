@@ -3,9 +3,12 @@ ghost use mathlib.Core.Path.{_≡_};
 ghost use mathlib.Core.Bool.{false, _||_};
 ghost use Prim.Native.Nat.{_+_, _*_, _≤_, _<_};
 ghost use lib.ListN.{length, drop, getD};
-ghost use Rattle.entitlements.specs.Entitlements.{bodyLength, recordLength, entryOf, badName, outOfRange, recordFault, row14, entriesOf, lookUp, entitlement};
-ghost use Rattle.name_index.specs.Index.{Indexed};
-ghost use Rattle.entitlements.specs.Steps.{Roomy, Judged};
+ghost use Rattle.rows.specs.Rows.{beyond};
+ghost use Rattle.names.specs.Names.{badName};
+ghost use Rattle.name_index.specs.inner.Index.{Indexed};
+ghost use Rattle.entitlements.specs.Entitlements.{bodyLength, recordLength, mostValue, entryOf, row14, entriesOf, lookUp, entitlement};
+ghost use Rattle.entitlements.specs.inner.Steps.{runOf, Roomy, Judged};
+use name_index::Run;
 
 // What the list says of a flowgate: the Non-Monitoring RTO's entitlement in tenths of a MW, or the refusal's number.
 pub enum Entitlement {
@@ -22,9 +25,18 @@ const RECORD: usize = BODY + 1;
 
 const MOST_RECORDS: usize = 2500;
 
+const MOST_VALUE: u64 = 100_000;
+
+// A short list has a small table of names: a large one takes longer to clear than the list to check.
 const FEW: usize = 16;
 
-const MOST_VALUE: u64 = 100_000;
+const SMALL_MASK: usize = 31;
+
+const SMALL_TABLE: usize = SMALL_MASK + 1 + FEW;
+
+const LARGE_MASK: usize = 4095;
+
+const LARGE_TABLE: usize = LARGE_MASK + 1 + MOST_RECORDS;
 
 // The entitlement that a body holds.
 fn value_of(body: &[u8]) -> i64
@@ -37,7 +49,7 @@ fn value_of(body: &[u8]) -> i64
 // Whether a body's name or its value meets row 14.
 fn entry_fault(body: &[u8]) -> bool
     requires { ⌜ bodyLength ≤ length (now body) ⌝ }
-    ensures { λ r. ⌜ r ≡ (badName (entryOf (now (body .entry)) .name) || outOfRange (entryOf (now (body .entry)) .value)) ⌝ }
+    ensures { λ r. ⌜ r ≡ (badName (entryOf (now (body .entry)) .name) || beyond mostValue (entryOf (now (body .entry)) .value)) ⌝ }
 {
     let size = integers::magnitude(value_of(body));
     !names::name_ok(names::name_at(body, 0)) | (MOST_VALUE < size)
@@ -45,7 +57,7 @@ fn entry_fault(body: &[u8]) -> bool
 
 // Whether the record at `at`, behind n others, meets row 14; if it does not, the table holds its name with theirs.
 fn record_fault(list: &[u8], at: usize, n: usize, mask: usize, table: &mut [u16]) -> bool
-    requires { ⌜ (at ≡ recordLength * n) × (at < length (now list)) × Roomy mask (now list) (length (now table)) × Indexed mask (now list) 1 recordLength 0 n (now table) ⌝ }
+    requires { ⌜ (at ≡ recordLength * n) × (at < length (now list)) × Roomy mask (now list) (length (now table)) × Indexed (now list) (runOf mask n) (now table) ⌝ }
     ensures { λ r. ⌜ Judged mask (now (list .entry)) at n r (now (table .exit)) ⌝ }
 {
     let from = at + 1;
@@ -55,7 +67,14 @@ fn record_fault(list: &[u8], at: usize, n: usize, mask: usize, table: &mut [u16]
     if MOST_RECORDS <= n {
         return true;
     }
-    if name_index::seen_before(list, from, 1, RECORD, 0, n, mask, table) {
+    let run = Run {
+        first: 1,
+        stride: RECORD,
+        count: n,
+        base: 0,
+        mask: mask,
+    };
+    if name_index::seen_before(list, run, table) {
         return true;
     }
     (list[at] != KIND) | entry_fault(&list[from..])
@@ -63,7 +82,7 @@ fn record_fault(list: &[u8], at: usize, n: usize, mask: usize, table: &mut [u16]
 
 // Whether a record of the list meets row 14. The table, in which there is no name yet, has room for each.
 fn any_fault(list: &[u8], mask: usize, table: &mut [u16]) -> bool
-    requires { ⌜ Roomy mask (now list) (length (now table)) × Indexed mask (now list) 1 recordLength 0 0 (now table) ⌝ }
+    requires { ⌜ Roomy mask (now list) (length (now table)) × Indexed (now list) (runOf mask 0) (now table) ⌝ }
     ensures { λ r. ⌜ r ≡ row14 (now (list .entry)) ⌝ }
 {
     let mut at = 0;
@@ -78,16 +97,16 @@ fn any_fault(list: &[u8], mask: usize, table: &mut [u16]) -> bool
     false
 }
 
-// Whether a record of the list meets row 14. A short list has a small table: a large one takes longer to clear than the list to check.
+// Whether a record of the list meets row 14.
 fn faulty(list: &[u8]) -> bool
     ensures { λ r. ⌜ r ≡ row14 (now (list .entry)) ⌝ }
 {
     if list.len() <= FEW * RECORD {
-        let mut small = [0u16; 48];
-        return any_fault(list, 31, &mut small);
+        let mut small = [0u16; SMALL_TABLE];
+        return any_fault(list, SMALL_MASK, &mut small);
     }
-    let mut large = [0u16; 6596];
-    any_fault(list, 4095, &mut large)
+    let mut large = [0u16; LARGE_TABLE];
+    any_fault(list, LARGE_MASK, &mut large)
 }
 
 // The entitlement of the entry that bears the name, or 15, in a list that passes row 14.

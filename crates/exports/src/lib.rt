@@ -5,6 +5,7 @@ ghost use Rattle.entitlements.specs.Entitlements.{entitlement};
 ghost use Rattle.settlement.specs.Promise.{Promise};
 ghost use Rattle.report.specs.Report.{reported, left};
 ghost use Rattle.exports.specs.Answers.{readAnswer, entitlementAnswer};
+use listing::Printed;
 use statement::Statement;
 
 // What the reader answers: 0 and the counts of an accepted sheet's records, or a refusal's number and the offending record's place.
@@ -34,12 +35,11 @@ pub extern "C" fn m2m_settle(sheet: &[u8], list: &[u8]) -> Statement
 }
 
 #[no_mangle]
-pub extern "C" fn m2m_settle_into(sheet: &[u8], list: &[u8], out: &mut [u8]) -> Statement
-    ensures { λ r. ⌜ r ≡ reported (now (sheet .entry)) (now (list .entry)) (now (out .entry)) .statement ⌝ }
+pub extern "C" fn m2m_report(sheet: &[u8], list: &[u8], out: &mut [u8]) -> Printed
+    ensures { λ r. ⌜ r ≡ reported (now (sheet .entry)) (now (list .entry)) (now (out .entry)) ⌝ }
     ensures { λ _. ⌜ now (out .exit) ≡ left (now (sheet .entry)) (now (list .entry)) (now (out .entry)) ⌝ }
 {
-    let p = report::report(sheet, list, out);
-    p.statement
+    report::report(sheet, list, out)
 }
 
 #[no_mangle]

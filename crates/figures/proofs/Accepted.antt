@@ -1,11 +1,11 @@
--- Sheet S passes rows 1 to 13 and 16 to 22: what is proved of accepted sheets speaks of something. Assumes nothing.
+-- Sheet S passes rows 1 to 13 and 16 to 22: what is proved of accepted sheets speaks of something.
 use Prim.Native.Nat.{ℕ, zero, suc, _≤_, _<_}
 use native.Mathlib.Omega.{arith}
 use mathlib.Core.Path.{_≡_, refl}
 use mathlib.Core.Bool.{Bool, true, false, cond}
 use mathlib.Core.List.{List, [], _∷_}
 use lib.Dec.{lit≤}
-use lib.IntN.{pos, natAbs}
+use lib.IntN.{natAbs}
 use lib.ListN.{length, getD}
 use Rattle.due_factors.specs.Due.{tab, each, flowgate, perPar, dueList}
 use Rattle.records.specs.declared.Place.the-variants.{Proxy, Line}
@@ -13,7 +13,7 @@ use Rattle.records.specs.declared.Factor.{Factor}
 use Rattle.records.specs.Content.{Content, head, noZone, noUnit, noPoint, noPar, bears, factorFor}
 use Rattle.records.specs.Valid.{HeadFits, ZoneFits, UnitFits, LineFits, PointFits, ParFits, Valid}
 use Rattle.figures.specs.Balance.{balanceRow}
-use Rattle.figures.specs.Flow.{flowOutside, flowRow}
+use Rattle.figures.specs.Flow.{marketFlow, flowRow}
 use Rattle.figures.proofs.Examples.{printed, refused, sheetS}
 
 -- what holds of every element holds at every index
@@ -97,6 +97,6 @@ pub s-balanced : balanceRow sheetS ≡ 0
 unfolding refused
 s-balanced = refl
 
-pub s-inside : flowRow sheetS (pos 100) ≡ 0
-unfolding printed flowOutside flowRow
+pub s-inside : flowRow (marketFlow sheetS) ≡ 0
+unfolding printed flowRow
 s-inside = refl

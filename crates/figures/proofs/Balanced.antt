@@ -1,4 +1,4 @@
--- What is known of loads and generation where none of refusals 16 to 21 is met. Assumes nothing.
+-- What is known of loads and generation where none of refusals 16 to 21 is met.
 use Prim.Native.Nat.{ℕ, zero, suc, _<_}
 use native.Mathlib.Omega.{arith}
 use mathlib.Core.Path.{_≡_, refl, sym}

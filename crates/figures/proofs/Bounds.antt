@@ -1,4 +1,4 @@
--- How large each figure can be where none of refusals 16 to 21 is met. Every one fits an i64. Assumes nothing.
+-- How large each figure can be where none of refusals 16 to 21 is met. Every one fits an i64.
 use Prim.Native.Nat.{ℕ, _+_, _-_, _*_, _≤_, _<_}
 use native.Mathlib.Nat.{le-refl, le-trans, mul-le-mul-left}
 use native.Mathlib.Omega.{arith}
@@ -18,8 +18,8 @@ use Rattle.integers.proofs.Tactic.{zi, zo}
 use Rattle.records.specs.Content.{Content, unit, point, par}
 use Rattle.records.specs.Valid.{Valid}
 use Rattle.figures.specs.Balance.{totalLoad, importInto, lineImports, zoneLoad, netLoad, output, outputIn, zoneOutput, exportFrom, lineExports, zoneGeneration, netGeneration, finalGeneration, grossOutput, grossLoad, balanceRow}
-use Rattle.figures.specs.Flow.{common, noncommon, unitFactor, zoneFactor, parFactor, outputTerm, weightedOutput, loadTerm, weightedLoad, firstDividend, loadShare, grossFlow, secondDividend, generationToLoad, parallel, shadow, control, carriedTerm, carriedSum, carried, redirect, nyisoMonitors, nonCommonRedirect, marketFlow}
-use Rattle.figures.proofs.Numbers.{natural-least, less-left, size-most, size-rise, cond-within, times-within, sum-within, sum-rise, sum-term, sum-weighted, quotient-share}
+use Rattle.figures.specs.Flow.{common, noncommon, unitFactor, zoneFactor, parFactor, outputTerm, weightedOutput, loadTerm, weightedLoad, firstDividend, loadShare, firstRemainder, grossFlow, secondDividend, generationToLoad, secondRemainder, parallel, shadow, control, carriedTerm, carriedSum, carried, redirect, nyisoMonitors, nonCommonRedirect, marketFlow}
+use Rattle.figures.proofs.Numbers.{natural-least, less-left, size-most, size-rise, cond-within, times-within, sum-within, sum-rise, sum-term, sum-weighted, remainder-within, quotient-share}
 use Rattle.figures.proofs.Balanced.{on-line-least, gross-load-most, gross-output-most, zone-load-least, net-load-above, net-generation-above, final-generation-least, final-generation-most}
 use Rattle.figures.proofs.Factors.{unit-factor-within, zone-factor-within, par-factor-within}
 use Rattle.figures.proofs.Ranges.{parallel-within, shadow-within, control-within}
@@ -126,6 +126,10 @@ module _ {c : Content} (v : Valid c) (e : balanceRow c ≡ 0) where
         (let h = times-within (pos 10 *ℤ grossOutput c) (weightedLoad c target) (times-within (pos 10) (grossOutput c) (le-refl 10) gross-output-small) weighted-load-share in
         omega arith)
 
+    pub first-remainder-small : natAbs (firstRemainder c target) ≤ 2000000
+    unfolding firstRemainder
+    first-remainder-small = remainder-within (firstDividend c target) (netLoad c) (net-load-above c e) net-load-small
+
     pub gross-flow-small : natAbs (grossFlow c target) ≤ 400000000000
     unfolding grossFlow
     gross-flow-small =
@@ -146,6 +150,10 @@ module _ {c : Content} (v : Valid c) (e : balanceRow c ≡ 0) where
         quotient-share (secondDividend c target) (netGeneration c) 400000000000 (net-generation-above c e)
         (times-within (grossFlow c target) (finalGeneration c) gross-flow-small
         (size-rise (finalGeneration c) (netGeneration c) (final-generation-least c e) (final-generation-most c e)))
+
+    pub second-remainder-small : natAbs (secondRemainder c target) ≤ 2000000
+    unfolding secondRemainder
+    second-remainder-small = remainder-within (secondDividend c target) (netGeneration c) (net-generation-above c e) net-generation-small
 
   -- steps 5 and 6
   pub carried-term-small : (class i : ℕ) → i < length (c .pars) → natAbs (carriedTerm c class i) ≤ 10400000000000000

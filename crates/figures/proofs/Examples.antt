@@ -1,4 +1,4 @@
--- Document 01's worked figures, computed: flows with their remainders, payments, sheet S, and each of refusals 16 to 21. Assumes nothing.
+-- Document 01's worked figures, computed: flows with their remainders, payments, sheet S, and each of refusals 16 to 21.
 use Prim.Native.Nat.{ℕ}
 use mathlib.Core.Path.{_≡_, refl}
 use mathlib.Core.List.{List, [], _∷_, map}
@@ -13,10 +13,10 @@ use Rattle.records.specs.declared.Place.the-variants.{Proxy, Line}
 use Rattle.records.specs.declared.Point.{Point}
 use Rattle.records.specs.declared.Par.{Par}
 use Rattle.records.specs.declared.Factor.{Factor}
-use Rattle.records.specs.Content.{Content, noName, bears, factorFor}
+use Rattle.records.specs.Content.{Content, noName, head, bears, factorFor}
 use Rattle.figures.specs.Balance.{onLine, atProxy, totalLoad, importInto, lineImports, zoneLoad, netLoad, proxyImport, proxyImports, finalLoad, output, outputIn, zoneOutput, exportFrom, lineExports, zoneGeneration, netGeneration, proxyExport, proxyExports, finalGeneration, grossOutput, grossLoad, grossAboveLimit, zoneLoadBelowZero, finalLoadNotAboveZero, zoneGenerationBelowZero, isZero, netGenerationZero, finalGenerationBelowZero, balanceRow}
-use Rattle.figures.specs.Flow.{common, noncommon, unitFactor, zoneFactor, pointFactor, parFactor, outputTerm, weightedOutput, loadTerm, weightedLoad, firstDividend, loadShare, firstRemainder, grossFlow, secondDividend, generationToLoad, secondRemainder, netSchedule, scheduleTerm, scheduleFlow, parallel, shadow, controlTerm, control, carriedTerm, carriedSum, carried, redirect, nyisoMonitors, nonCommonRedirect, marketFlow, settlementFlow}
-use Rattle.figures.specs.Payment.{inWatts, difference, price, amountOf, counts, priceTaken, amount, payment}
+use Rattle.figures.specs.Flow.{common, noncommon, unitFactor, zoneFactor, pointFactor, parFactor, outputTerm, weightedOutput, loadTerm, weightedLoad, firstDividend, loadShare, firstRemainder, grossFlow, secondDividend, generationToLoad, secondRemainder, netSchedule, scheduleTerm, scheduleFlow, parallel, shadow, controlTerm, control, carriedTerm, carriedSum, carried, redirect, nyisoMonitors, nonCommonRedirect, marketFlow, flowRow}
+use Rattle.figures.specs.Payment.{inWatts, difference, price, amountOf, amount, payment}
 
 -- records, most of them without a name: no figure depends on it
 abbrev pub headOf : ℕ → ℕ → ℕ → ℕ → Head
@@ -52,8 +52,8 @@ unfolding sumTo goesAway away step quotient remainder bears factorFor
     proxyExport proxyExports finalGeneration grossOutput
     unitFactor zoneFactor pointFactor parFactor outputTerm weightedOutput loadTerm weightedLoad firstDividend loadShare firstRemainder grossFlow
     secondDividend generationToLoad secondRemainder netSchedule scheduleTerm scheduleFlow parallel shadow controlTerm control carriedTerm carriedSum
-    carried redirect nyisoMonitors nonCommonRedirect marketFlow settlementFlow
-    inWatts difference price amountOf counts priceTaken amount payment
+    carried redirect nyisoMonitors nonCommonRedirect marketFlow
+    inWatts difference price amountOf amount payment
 printed c entitlement =
     generationToLoad c 0
     ∷ firstRemainder c 0
@@ -64,10 +64,10 @@ printed c entitlement =
     ∷ nonCommonRedirect c
     ∷ marketFlow c
     ∷ inWatts entitlement
-    ∷ priceTaken c entitlement
+    ∷ price (head c) (difference c entitlement)
     ∷ amount c entitlement
-    ∷ payment c entitlement 1
-    ∷ payment c entitlement 2
+    ∷ payment (head c) (amount c entitlement) 1
+    ∷ payment (head c) (amount c entitlement) 2
     ∷ []
 
 -- Sheet S, with its PAR's class and its Monitoring RTO left open

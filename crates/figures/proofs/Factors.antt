@@ -1,4 +1,4 @@
--- Every factor that a figure uses is one that is due, and so within ±10,000. Assumes nothing.
+-- Every factor that a figure uses is one that is due, and so within ±10,000.
 use Prim.Native.Nat.{ℕ, _≤_, _<_}
 use native.Mathlib.Omega.{arith}
 use mathlib.Core.Path.{refl}

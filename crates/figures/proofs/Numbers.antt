@@ -1,4 +1,4 @@
--- Laws of numbers, of sums over indices and of the rounded quotient that the figures' bounds rest on. Assumes nothing.
+-- Laws of numbers, of sums over indices and of the rounded quotient that the figures' bounds rest on.
 use Prim.Native.Nat.{ℕ, zero, suc, _+_, _*_, _≤_, _<_}
 use native.Mathlib.Nat.{le-trans, mul-le-mul, mul-le-mul-right}
 use native.Mathlib.Decide.{decLe, ℕ-discrete}
@@ -90,6 +90,11 @@ sum-weighted f g k (suc n) h l =
       sum-weighted f g k n (λ i m. h i (omega arith)) (λ i m. l i (omega arith)),
       ap (λ m. k * m) (abs-both (sumTo g n) (g n) (sum-least g n (λ i m. l i (omega arith))) (l n (omega arith))),
     )
+
+-- a remainder is no larger than the divisor
+pub remainder-within : (n d : ℤ) {k : ℕ} → pos 0 <ℤ d → natAbs d ≤ k → natAbs (remainder n d) ≤ k
+remainder-within n (pos b) h l = omega (zarith, near n (pos b) h)
+remainder-within n (negsuc b) h l = absurd (h .lt)
 
 -- a rounded quotient is at most k where the dividend is at most k divisors
 less-is : (n q r d : ℤ) → n ≡ q *ℤ d +ℤ r → q *ℤ d ≡ n -ℤ r

@@ -1,21 +1,22 @@
--- A difference's price goes by its sign alone; and how large the payment's figures can be where refusal 22 is not met. Assumes nothing.
-use Prim.Native.Nat.{zero, suc, _≤_}
+-- A difference's price goes by its sign alone; and how large the payment's figures can be where refusal 22 is not met.
+use Prim.Native.Nat.{ℕ, zero, suc, _≤_}
 use native.Mathlib.Nat.{le-refl}
 use native.Mathlib.Omega.{arith}
-use mathlib.Core.Path.{_≡_, refl}
-use lib.Dec.{lit<}
-use lib.IntN.{ℤ, pos, negsuc, negℤ, natAbs, _*ℤ_}
-use lib.Signed.{_<ℤ_, ltZ}
+use mathlib.Core.Path.{_≡_, refl, sym}
+use mathlib.Core.Bool.{Bool, true, false, cond}
+use borrow.Author.Tests.{ltb-false, eqb-true, eqb-false}
+use lib.Dec.{eqb, ltb, lit<}
+use lib.IntN.{ℤ, pos, negsuc, negℤ, natAbs, _*ℤ_, negℤ-negℤ}
+use lib.Signed.{_≤ℤ_, _<ℤ_}
 use Rattle.integers.proofs.Parts.{lt-to}
-use Rattle.integers.proofs.Absolute.{abs-sub, abs-within}
-use Rattle.integers.proofs.Machine.{lt-false}
+use Rattle.integers.proofs.Absolute.{abs-sub, abs-neg}
 use Rattle.records.specs.declared.Head.{Head}
 use Rattle.records.specs.Content.{Content, head}
 use Rattle.records.specs.Valid.{Valid, HeadFits}
-use Rattle.figures.specs.Flow.{settlementFlow, flowOutside, flowRow}
-use Rattle.figures.specs.Payment.{inWatts, difference, price, amountOf, counts, amount}
-use Rattle.figures.proofs.Balanced.{not-met, neither}
-use Rattle.figures.proofs.Numbers.{cond-within, times-within, quotient-share}
+use Rattle.figures.specs.Flow.{marketFlow, flowRow}
+use Rattle.figures.specs.Payment.{inWatts, difference, price, amountOf, amount, payment}
+use Rattle.figures.proofs.Balanced.{not-met}
+use Rattle.figures.proofs.Numbers.{natural-least, times-within, quotient-share}
 
 pub price-above : (h : Head) (d : ℤ) → pos 0 <ℤ d → price h d ≡ pos (h .«monitoring_price»)
 unfolding price
@@ -32,6 +33,12 @@ pub price-zero : (h : Head) → price h (pos 0) ≡ pos 0
 unfolding price
 price-zero h = refl
 
+pub price-least : (h : Head) (d : ℤ) → pos 0 ≤ℤ price h d
+unfolding price
+price-least h (pos zero) = natural-least 0
+price-least h (pos (suc n)) = natural-least (h .«monitoring_price»)
+price-least h (negsuc n) = natural-least (h .«nonmonitoring_price»)
+
 module _ {h : Head} (f : HeadFits h) where
   pub price-within : (d : ℤ) → natAbs (price h d) ≤ 400000
   unfolding price
@@ -47,19 +54,38 @@ module _ {h : Head} (f : HeadFits h) where
   unfolding amountOf
   amount-of-within d l = quotient-share (d *ℤ price h d *ℤ pos (h .seconds)) (pos 3600000) 2000000000000 (record { lt = tt }) (charge-within d l)
 
-module _ (c : Content) (entitlement : ℤ) (e : flowRow c entitlement ≡ 0) where
-  pub settlement-flow-within : natAbs (settlementFlow c entitlement) ≤ 10000000000
-  unfolding flowRow flowOutside
-  settlement-flow-within =
-      let x = settlementFlow c entitlement in
-      let n = neither (ltZ x (negℤ (pos 10000000000))) (ltZ (pos 10000000000) x) (not-met (flowOutside x) 22 0 (lit< tt) e .0) in
-      abs-within {x = x} (lt-false _ _ (n .0)) (lt-false _ _ (n .1))
+pub flow-within : (flow : ℤ) → flowRow flow ≡ 0 → natAbs flow ≤ 10000000000
+unfolding flowRow
+flow-within flow e = omega (arith, ltb-false, not-met (ltb 10000000000 (natAbs flow)) 22 0 (lit< tt) e .0)
 
-  pub difference-within : natAbs entitlement ≤ 100000 → natAbs (difference c entitlement) ≤ 20000000000
-  unfolding difference inWatts
-  difference-within h =
-      omega (arith, abs-sub (settlementFlow c entitlement) (entitlement *ℤ pos 100000), settlement-flow-within, times-within entitlement (pos 100000) h (le-refl 100000))
+pub in-watts-within : (entitlement : ℤ) → natAbs entitlement ≤ 100000 → natAbs (inWatts entitlement) ≤ 10000000000
+unfolding inWatts
+in-watts-within entitlement h = times-within entitlement (pos 100000) h (le-refl 100000)
 
-  pub amount-within : Valid c → natAbs entitlement ≤ 100000 → natAbs (amount c entitlement) ≤ 2000000000000
+module _ (c : Content) (entitlement : ℤ) (e : flowRow (marketFlow c) ≡ 0) (h : natAbs entitlement ≤ 100000) where
+  pub difference-within : natAbs (difference c entitlement) ≤ 20000000000
+  unfolding difference
+  difference-within = omega (arith, abs-sub (marketFlow c) (inWatts entitlement), flow-within (marketFlow c) e, in-watts-within entitlement h)
+
+  pub amount-within : Valid c → natAbs (amount c entitlement) ≤ 2000000000000
   unfolding amount
-  amount-within v h = cond-within (counts c) (amountOf (head c) (difference c entitlement)) (amount-of-within (v .head-fits) (difference c entitlement) (difference-within h))
+  amount-within v = amount-of-within (v .head-fits) (difference c entitlement) difference-within
+
+-- the two payments of an amount: one is the other's negative, and neither is larger than it
+pub payments-opposite : {h : Head} → HeadFits h → (a : ℤ) → payment h a 2 ≡ negℤ (payment h a 1)
+unfolding payment
+payments-opposite {h} f a = go (eqb (h .«monitoring_rto») 1) refl
+  where
+    go : (b : Bool) → eqb (h .«monitoring_rto») 1 ≡ b → cond (eqb (h .«monitoring_rto») 2) a (negℤ a) ≡ negℤ (cond b a (negℤ a))
+    go true p = rw (eqb-true (h .«monitoring_rto») 1 p)
+    go false p =
+        let two : h .«monitoring_rto» ≡ 2 = omega (arith, eqb-false (h .«monitoring_rto») 1 p) in
+        rw two (sym (negℤ-negℤ a))
+
+pub payment-within : (h : Head) (a : ℤ) (rto : ℕ) {k : ℕ} → natAbs a ≤ k → natAbs (payment h a rto) ≤ k
+unfolding payment
+payment-within h a rto {k} l = go (eqb (h .«monitoring_rto») rto)
+  where
+    go : (b : Bool) → natAbs (cond b a (negℤ a)) ≤ k
+    go true = l
+    go false = rw (abs-neg a) l

@@ -1,4 +1,4 @@
--- How large each term and each sum can be on any content that passes rows 1 to 13. Assumes nothing.
+-- How large each term and each sum can be on any content that passes rows 1 to 13.
 use Prim.Native.Nat.{ℕ, _+_, _*_, _≤_, _<_}
 use native.Mathlib.Nat.{le-refl}
 use native.Mathlib.Omega.{arith}

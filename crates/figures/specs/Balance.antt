@@ -1,4 +1,4 @@
--- Steps 1 and 2, loads and generation (5.2, 5.3), and refusals 16 to 21 on them. Powers are tenths of a MW. Assumes nothing.
+-- Steps 1 and 2, loads and generation (5.2, 5.3), and refusals 16 to 21 on them. Powers are tenths of a MW.
 use Prim.Native.Nat.{ℕ, zero, suc, _+_}
 use mathlib.Core.Bool.{Bool, true, false, not, cond, _||_}
 use lib.Dec.{eqb}

@@ -1,13 +1,13 @@
--- Steps 3 to 6, from a target's generation-to-load flow to the market flow (5.4 to 5.7), and refusal 22. Flows are watts. Assumes nothing.
--- Nothing is rounded before it is summed.
+-- Steps 3 to 6, from a target's generation-to-load flow to the market flow (5.4 to 5.7), and refusal 22. Flows are watts.
+-- Rounded are only B, each target's generation-to-load flow and a class's carried flow, none of them before its sum is whole.
 use Prim.Native.Nat.{ℕ, _+_}
-use mathlib.Core.Bool.{Bool, cond, _||_}
+use mathlib.Core.Bool.{Bool, cond}
 use lib.Dec.{eqb}
-use lib.IntN.{ℤ, pos, negℤ, _+ℤ_, _-ℤ_, _*ℤ_}
+use lib.IntN.{ℤ, pos, _+ℤ_, _-ℤ_, _*ℤ_}
 use lib.ListN.{length}
-use lib.Signed.{ltZ}
 use Rattle.integers.specs.Sum.{sumTo}
 use Rattle.quotient.specs.Rounded.{quotient, remainder}
+use Rattle.rows.specs.Rows.{row, beyond}
 use Rattle.records.specs.Content.{Content, head, point, par, factorFor}
 use Rattle.figures.specs.Balance.{zoneLoad, netLoad, output, grossOutput, netGeneration, finalGeneration}
 
@@ -118,14 +118,6 @@ nonCommonRedirect c = cond (nyisoMonitors c) (pos 0) (redirect c noncommon)
 unfoldable pub marketFlow : Content → ℤ
 marketFlow c = generationToLoad c 0 +ℤ parallel c 0 +ℤ shadow c 0 -ℤ redirect c common -ℤ nonCommonRedirect c
 
--- The flow that is paid on, at an entitlement: the market flow, whatever the entitlement
-unfoldable pub settlementFlow : Content → ℤ → ℤ
-settlementFlow c entitlement = marketFlow c
-
--- 22: the flow is outside ±10,000,000,000 W
-unfoldable pub flowOutside : ℤ → Bool
-flowOutside x = ltZ x (negℤ (pos 10000000000)) || ltZ (pos 10000000000) x
-
--- 22 or 0
-unfoldable pub flowRow : Content → ℤ → ℕ
-flowRow c entitlement = cond (flowOutside (settlementFlow c entitlement)) 22 0
+-- 22: the market flow is outside ±10,000,000,000 W
+unfoldable pub flowRow : ℤ → ℕ
+flowRow market = row 22 (beyond 10000000000 market) 0

@@ -1,19 +1,17 @@
--- The numbers that steps 3 to 6 pass on are the figures, and each fits. Assumes nothing.
+-- The numbers that steps 3 to 6 pass on are the figures, and each fits.
 use Prim.Native.Nat.{ℕ, _+_, _*_, _≤_, _<_}
 use native.Mathlib.Omega.{arith}
 use mathlib.Core.Path.{_≡_, refl, sym, ap, _∙_}
 use mathlib.Core.Bool.{true, false}
 use mathlib.Core.List.{List}
 use lib.Dec.{eqb, lit<, lit≤}
-use lib.IntN.{ℤ, pos, negsuc, natAbs, _+ℤ_, _-ℤ_, _*ℤ_}
+use lib.IntN.{ℤ, pos, natAbs, _+ℤ_, _-ℤ_, _*ℤ_}
 use lib.ListN.{length}
 use lib.Signed.{_<ℤ_}
 use borrow.Author.Tests.{eq-eqb, ne-eqb}
-use Rattle.integers.proofs.Linear.{zarith}
 use Rattle.integers.proofs.Machine.{Num, Op, rd, num-is, add, sub, mul}
 use Rattle.quotient.specs.declared.Quotient.{Quotient}
 use Rattle.quotient.specs.Rounded.{quotient, remainder}
-use Rattle.quotient.proofs.Laws.{near}
 use Rattle.due_factors.specs.Due.{Asked, howMany}
 use Rattle.layout.specs.declared.Layout.{Layout}
 use Rattle.records.specs.Content.{Content, par, factorFor}
@@ -21,17 +19,16 @@ use Rattle.records.specs.Valid.{Valid}
 use Rattle.sheet.specs.Sheet.{contentOf}
 use Rattle.sheet.proofs.Accepted.{valid, counts}
 use Rattle.figures.specs.Balance.{balanceRow, netLoad, grossOutput, netGeneration, finalGeneration}
-use Rattle.figures.specs.Flow.{common, noncommon, weightedOutput, weightedLoad, firstDividend, loadShare, firstRemainder, grossFlow, secondDividend, generationToLoad, secondRemainder, scheduleFlow, parallel, shadow, parFactor, carriedSum, carried, redirect, nonCommonRedirect, settlementFlow, marketFlow, flowRow}
-use Rattle.figures.proofs.Balanced.{net-load-above, net-generation-above}
-use Rattle.figures.proofs.Bounds.{gross-output-small, net-load-small, net-generation-small, final-generation-small, weighted-output-small, weighted-load-small, load-share-small, generation-to-load-small, carried-sum-small, carried-small, redirect-small, non-common-redirect-small, market-flow-small}
+use Rattle.figures.specs.Flow.{common, noncommon, weightedOutput, weightedLoad, firstDividend, loadShare, firstRemainder, grossFlow, secondDividend, generationToLoad, secondRemainder, scheduleFlow, parallel, shadow, parFactor, carriedSum, carried, redirect, nonCommonRedirect, marketFlow, flowRow}
+use Rattle.figures.proofs.Bounds.{gross-output-small, net-load-small, net-generation-small, final-generation-small, weighted-output-small, weighted-load-small, load-share-small, first-remainder-small, generation-to-load-small, second-remainder-small, carried-sum-small, carried-small, redirect-small, non-common-redirect-small, market-flow-small}
 use Rattle.figures.proofs.Factors.{par-factor-within}
 use Rattle.figures.proofs.Ranges.{schedule-flow-within, control-within}
 use Rattle.balance.specs.declared.Balance.{Balance}
-use Rattle.balance.specs.Balance.{balanceOf}
-use Rattle.weighted_sums.specs.Weighted.{weightedSum}
+use Rattle.balance.specs.inner.Balance.{balanceOf}
+use Rattle.weighted_sums.specs.inner.Weighted.{weightedSum}
 use Rattle.weighted_sums.proofs.Laws.{outputs-are, loads-are, schedules-are, control-is}
 use Rattle.flow.specs.declared.GenerationToLoad.{GenerationToLoad}
-use Rattle.flow.specs.Flow.{Ready, Divided, gtlOf, parShare, rowOf, flowOf}
+use Rattle.flow.specs.inner.Flow.{Ready, Divided, gtlOf, parShare, flowOf}
 
 -- a number that is read keeps its bound and its sign
 pub read-within : {p z : ℤ} {B : ℕ} → Num p z B → natAbs p ≤ B
@@ -40,18 +37,8 @@ read-within n = rw (n .is) (n .abs)
 pub read-above : {p z : ℤ} {B : ℕ} → Num p z B → pos 0 <ℤ z → pos 0 <ℤ p
 read-above n h = rw (n .is) h
 
--- a remainder is no larger than the divisor
-remainder-within : (n d : ℤ) {k : ℕ} → pos 0 <ℤ d → natAbs d ≤ k → natAbs (remainder n d) ≤ k
-remainder-within n (pos b) h l = omega (zarith, near n (pos b) h)
-remainder-within n (negsuc b) h l = absurd (h .lt)
-
 pub divided : (q : Quotient) {m e n d : ℤ} → (q .quotient ≡ quotient m e) × (q .remainder ≡ remainder m e) → m ≡ n → e ≡ d → Divided q n d
 divided q h em ed = record { quotient = h .0 ∙ rw (em, ed); remainder = h .1 ∙ rw (em, ed) }
-
--- the row is judged on the settlement flow, at any entitlement
-pub row-is : (c : Content) (entitlement : ℤ) → flowOf c .row ≡ flowRow c entitlement
-unfolding rowOf flowRow settlementFlow
-row-is c entitlement = refl
 
 -- what a test on a code says, where the code read, m, is the content's k
 pub same-code : {m k n : ℕ} → m ≡ k → m ≡ n → eqb k n ≡ true
@@ -100,19 +87,11 @@ module _ {s : List ℕ} {l : Layout} {b : Balance} {plus minus : List ℕ} (r : 
     pub gtl-num : (x : GenerationToLoad) → x ≡ gtlOf (contentOf s) target → Num (rd (x .flow)) (generationToLoad (contentOf s) target) 400000000000
     gtl-num x e = num-is (x .flow) _ 400000000000 (ap (λ (y : GenerationToLoad). y .flow) e) (generation-to-load-small is-valid no-row (known k)) (lit< tt)
 
-    first-within : natAbs (firstRemainder (contentOf s) target) ≤ 2000000
-    unfolding firstRemainder
-    first-within = remainder-within _ _ (net-load-above _ no-row) (net-load-small is-valid no-row)
-
-    second-within : natAbs (secondRemainder (contentOf s) target) ≤ 2000000
-    unfolding secondRemainder
-    second-within = remainder-within _ _ (net-generation-above _ no-row) (net-generation-small is-valid no-row)
-
     first-num : (x : GenerationToLoad) → x ≡ gtlOf (contentOf s) target → Num (rd (x .«first_remainder»)) (firstRemainder (contentOf s) target) 2000000
-    first-num x e = num-is _ _ 2000000 (ap (λ (y : GenerationToLoad). y .«first_remainder») e) first-within (lit< tt)
+    first-num x e = num-is _ _ 2000000 (ap (λ (y : GenerationToLoad). y .«first_remainder») e) (first-remainder-small is-valid no-row (known k)) (lit< tt)
 
     second-num : (x : GenerationToLoad) → x ≡ gtlOf (contentOf s) target → Num (rd (x .«second_remainder»)) (secondRemainder (contentOf s) target) 2000000
-    second-num x e = num-is _ _ 2000000 (ap (λ (y : GenerationToLoad). y .«second_remainder») e) second-within (lit< tt)
+    second-num x e = num-is _ _ 2000000 (ap (λ (y : GenerationToLoad). y .«second_remainder») e) (second-remainder-small is-valid no-row (known k)) (lit< tt)
 
     -- B, as its quotient returns it
     module _ {n : ℤ} (en : n ≡ weightedSum (contentOf s) 2 0 target) {q : Quotient} (dq : Divided q (pos 10 *ℤ rd (b .«gross_output») *ℤ rd n) (rd (b .«net_load»))) where
@@ -139,8 +118,8 @@ module _ {s : List ℕ} {l : Layout} {b : Balance} {plus minus : List ℕ} (r : 
         pub gtl-is : record { flow = rd (w .quotient); «first_remainder» = rd (q .remainder); «second_remainder» = rd (w .remainder) } ≡ gtlOf (contentOf s) target
         gtl-is =
             let f = num-is (w .quotient) _ 400000000000 flow-is (generation-to-load-small is-valid no-row (known k)) (lit< tt) in
-            let g = num-is (q .remainder) _ 2000000 first-is first-within (lit< tt) in
-            let h = num-is (w .remainder) _ 2000000 second-is second-within (lit< tt) in
+            let g = num-is (q .remainder) _ 2000000 first-is (first-remainder-small is-valid no-row (known k)) (lit< tt) in
+            let h = num-is (w .remainder) _ 2000000 second-is (second-remainder-small is-valid no-row (known k)) (lit< tt) in
             rw (f .is, g .is, h .is)
 
   -- a PAR's share, by its flow and its factor
@@ -191,7 +170,7 @@ module _ {s : List ℕ} {l : Layout} {b : Balance} {plus minus : List ℕ} (r : 
         (e ∙ rw (gtl-num flowgate g eg .is, schedule-num flowgate noncommon x ex .is, schedule-num flowgate common y ey .is, redirect-num common z ez .is, noncommon-num w ew .is))
         (market-flow-small is-valid no-row) (lit< tt)
 
-    pub flow-of-is : (m : ℤ) (n : ℕ) → m ≡ rd (g .flow) +ℤ rd x +ℤ rd y -ℤ rd z -ℤ rd w → n ≡ rowOf (rd m) →
+    pub flow-of-is : (m : ℤ) (n : ℕ) → m ≡ rd (g .flow) +ℤ rd x +ℤ rd y -ℤ rd z -ℤ rd w → n ≡ flowRow (rd m) →
         record { row = n; gtl = rd (g .flow); «first_remainder» = rd (g .«first_remainder»); «second_remainder» = rd (g .«second_remainder»); parallel = rd x; shadow = rd y; common = rd z; noncommon = rd w; market = rd m }
         ≡ flowOf (contentOf s)
     unfolding parallel shadow

@@ -4,8 +4,8 @@ ghost use Prim.Native.Nat.{_<_, _≤_};
 ghost use lib.IntN.{pos, natAbs, _+ℤ_, _-ℤ_, _*ℤ_};
 ghost use lib.Signed.{_<ℤ_};
 ghost use Rattle.sheet.specs.Sheet.{contentOf};
-ghost use Rattle.figures.specs.Flow.{carriedTerm, carriedSum, redirect, nonCommonRedirect};
-ghost use Rattle.flow.specs.Flow.{Ready, Divided, gtlOf, parShare, rowOf, flowOf};
+ghost use Rattle.figures.specs.Flow.{carriedTerm, carriedSum, redirect, nonCommonRedirect, flowRow};
+ghost use Rattle.flow.specs.inner.Flow.{Ready, Divided, gtlOf, parShare, flowOf};
 use weighted_sums::COMMON;
 use weighted_sums::NON_COMMON;
 use weighted_sums::PAR;
@@ -17,6 +17,9 @@ use weighted_sums::ZONE;
 const FLOWGATE: usize = 0;
 
 const NYISO: u8 = 1;
+
+// Of the market flow, either way.
+const MOST_FLOW: u64 = 10_000_000_000;
 
 // Of one target. The remainders are those of the two rounded quotients of step 3.
 pub struct GenerationToLoad {
@@ -179,17 +182,11 @@ fn market_flow(gtl: i64, parallel: i64, shadow: i64, common: i64, noncommon: i64
     gtl + parallel + shadow - common - noncommon
 }
 
-// Refusal 22, on the flow that is paid on.
-pub fn row_of(flow: i64) -> u8
-    ensures { λ r. ⌜ r ≡ rowOf flow ⌝ }
+// Refusal 22.
+fn flow_row(market: i64) -> u8
+    ensures { λ r. ⌜ r ≡ flowRow market ⌝ }
 {
-    if flow < -10000000000 {
-        return 22;
-    }
-    if flow > 10000000000 {
-        return 22;
-    }
-    0
+    rows::row(22, MOST_FLOW < integers::magnitude(market), 0)
 }
 
 // The figures stand also where the row is 22.
@@ -210,7 +207,7 @@ pub fn flow_of<'a>(
     let noncommon = noncommon_redirect(s, l, b, plus, minus);
     let market = market_flow(g.flow, parallel, shadow, common, noncommon);
     Flow {
-        row: row_of(market),
+        row: flow_row(market),
         gtl: g.flow,
         first_remainder: g.first_remainder,
         second_remainder: g.second_remainder,

@@ -1,16 +1,16 @@
 -- The index of names, from the first record to the last: none yet, a kind that begins, one record more.
 use Prim.Native.Nat.{ℕ, zero, suc, _+_, _-_, _≤_}
-use mathlib.Core.Path.{_≡_}
+use mathlib.Core.Path.{_≡_, refl}
 use mathlib.Core.List.{List}
 use native.Mathlib.Omega.{arith}
 use lib.ListN.{length, replicate, length-replicate}
 use Rattle.due_factors.proofs.Tab.{below-or}
 use Rattle.records.specs.Bodies.{byKind}
-use Rattle.name_index.specs.Index.{Indexed}
-use Rattle.name_index.proofs.Laws.{none, turned}
+use Rattle.name_index.specs.inner.Index.{Indexed, longer}
+use Rattle.name_index.proofs.Laws.{none-indexed, begun-indexed}
 use Rattle.layout.specs.declared.Layout.{Layout}
 use Rattle.layout.specs.Layout.{count, counted, noRecords, size, firstOf}
-use Rattle.layout.specs.Listed.{named, mask, tableSize, Listed}
+use Rattle.layout.specs.Listed.{named, mask, tableSize, runOf, Listed}
 use Rattle.layout.proofs.ByKind.{kinds}
 use Rattle.layout.proofs.Places.{count-same, count-other, first-agree}
 use Rattle.layout.proofs.Laid.{Laid}
@@ -36,7 +36,7 @@ module _ (s : List ℕ) where
   unfolding firstOf byKind
   listed-none = record {
     full = length-replicate {A = ℕ} tableSize 0;
-    holds = λ h. none mask s 1 1 0 tableSize (omega arith);
+    holds = λ h. none-indexed s (runOf noRecords 0) tableSize refl (omega arith);
   }
 
   module _ (l : Layout) (kind : ℕ) (table : List ℕ) where
@@ -48,14 +48,13 @@ module _ (s : List ℕ) where
           full = x .full;
           holds = λ h.
               let z : count l kind ≡ 0 = v .above kind a high in
-              let b : named l - 0 ≡ named l - count l last + count l last = omega (arith, count-named l last (omega arith)) in
-              rw (z, b) (turned mask s _ _ _ _ table (x .holds (omega arith)) _ _);
+              begun-indexed s (runOf l last) table (x .holds (omega arith)) (runOf l kind) z (omega (arith, count-named l last (omega arith))) refl;
         })
         (λ a. let e : kind ≡ last = omega arith in rw e x)
 
     -- once its name is added
     pub listed-next : 1 ≤ kind → kind ≤ 5 → length table ≡ tableSize →
-        Indexed mask s (firstOf l kind + 1) (size kind) (named l - count l kind) (count l kind + 1) table → Listed s (counted l kind) kind table
+        Indexed s (longer (runOf l kind)) table → Listed s (counted l kind) kind table
     listed-next low high f x = record {
       full = f;
       holds = λ h.

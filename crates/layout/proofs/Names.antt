@@ -1,12 +1,13 @@
 -- The names of a kind's records, at their places and in the content.
 use Prim.Native.Nat.{ℕ, zero, suc, _+_, _*_, _≤_}
 use mathlib.Core.Path.{_≡_, refl, sym, ap, _∙_}
-use mathlib.Core.Bool.{Bool, true, false, _||_, or-false, or-assoc}
+use mathlib.Core.Bool.{Bool, _||_, or-false, or-assoc, or-comm}
 use mathlib.Core.List.{List, [], _∷_, _++_, map, map-append}
 use native.Mathlib.Omega.{arith}
 use lib.ListN.{drop}
 use lib.Seq.{take-take}
-use Rattle.names.specs.Names.{nameAt, sameList, ifB, among}
+use Rattle.names.specs.Names.{nameAt, sameList, seenBefore}
+use Rattle.name_index.specs.inner.Index.{namesAt}
 use Rattle.due_factors.specs.Due.{tab}
 use Rattle.records.specs.Bodies.{byKind, bodyLength, bodyIn, headOf, zoneOf, unitOf, pointOf, parOf}
 use Rattle.records.specs.Content.{namesOf}
@@ -25,29 +26,17 @@ unfolding tab
 tab-same f g zero h = refl
 tab-same f g (suc n) h = rw (tab-same f g n h, h n)
 
-or-end : (a b : Bool) → (a || b) ≡ ifB a true b
-or-end true b = refl
-or-end false b = refl
-
 one-of-snoc : (x : List ℕ) (l : List (List ℕ)) (y : List ℕ) → oneOf x (l ++ (y ∷ [])) ≡ (oneOf x l || sameList y x)
 unfolding oneOf
 one-of-snoc x [] y = or-false (sameList y x)
 one-of-snoc x (z ∷ l) y = rw (one-of-snoc x l y) (sym (or-assoc (sameList z x) (oneOf x l) (sameList y x)))
 
-among-snoc : (s x : List ℕ) (at stride n : ℕ) → among s x at stride (suc n) ≡ (among s x at stride n || sameList (nameAt s (at + stride * n)) x)
-unfolding among
-among-snoc s x at stride zero =
-    let z : at + stride * 0 ≡ at = omega arith in
-    rw z (sym (or-end (sameList (nameAt s at) x) false) ∙ or-false (sameList (nameAt s at) x))
-among-snoc s x at stride (suc n) =
-    let z : at + stride + stride * n ≡ at + stride * suc n = omega arith in
-    rw (among-snoc s x (at + stride) stride n, z, ← or-end (sameList (nameAt s at) x) (among s x (at + stride) stride n))
-    (sym (or-end (sameList (nameAt s at) x) (among s x (at + stride) stride n || sameList (nameAt s (at + stride * suc n)) x)) ∙ sym (or-assoc (sameList (nameAt s at) x) (among s x (at + stride) stride n) (sameList (nameAt s (at + stride * suc n)) x)))
-
-among-is : (s x : List ℕ) (at stride n : ℕ) → among s x at stride n ≡ oneOf x (tab (λ i. nameAt s (at + stride * i)) n)
-unfolding tab among oneOf
-among-is s x at stride zero = refl
-among-is s x at stride (suc n) = among-snoc s x at stride n ∙ rw (among-is s x at stride n) (sym (one-of-snoc x (tab (λ i. nameAt s (at + stride * i)) n) (nameAt s (at + stride * n))))
+seen-is : (s x : List ℕ) (at stride n : ℕ) → seenBefore (namesAt s at stride n) x ≡ oneOf x (tab (λ i. nameAt s (at + stride * i)) n)
+unfolding tab namesAt seenBefore oneOf
+seen-is s x at stride zero = refl
+seen-is s x at stride (suc n) =
+    rw (seen-is s x at stride n) (or-comm (sameList (nameAt s (at + stride * n)) x) (oneOf x (tab (λ i. nameAt s (at + stride * i)) n)))
+    ∙ sym (one-of-snoc x (tab (λ i. nameAt s (at + stride * i)) n) (nameAt s (at + stride * n)))
 
 pub name-room : (kind : ℕ) → 1 ≤ kind → kind ≤ 5 → 16 ≤ bodyLength kind
 unfolding byKind
@@ -70,10 +59,10 @@ module _ (s : List ℕ) (l : Layout) where
   same-name k at g h = sym (take-take 16 (bodyLength k) (drop at s) (name-room k g h))
 
   -- row 7 at the places: of a record whose body stands at `from`
-  pub repeated-at : (kind from : ℕ) → 1 ≤ kind → kind ≤ 5 → among s (nameAt s from) (firstOf l kind + 1) (size kind) (count l kind) ≡ repeats (contentAt s l) kind (bodyIn kind (drop from s))
+  pub repeated-at : (kind from : ℕ) → 1 ≤ kind → kind ≤ 5 → seenBefore (namesAt s (firstOf l kind + 1) (size kind) (count l kind)) (nameAt s from) ≡ repeats (contentAt s l) kind (bodyIn kind (drop from s))
   repeated-at k from g h =
       rw (names-at k g h, ← same-name k from g h)
-      (among-is s (nameAt s from) (firstOf l k + 1) (size k) (count l k)
+      (seen-is s (nameAt s from) (firstOf l k + 1) (size k) (count l k)
       ∙ ap (oneOf (nameAt s from)) (tab-same (λ i. nameAt s (firstOf l k + 1 + size k * i)) (λ i. nameAt (bodyAt s l k i) 0) (count l k) (λ i. moved i)))
     where
       moved : (i : ℕ) → nameAt s (firstOf l k + 1 + size k * i) ≡ nameAt (bodyAt s l k i) 0

@@ -3,7 +3,8 @@ use Prim.Native.Nat.{ℕ, _+_, _-_, _≤_}
 use mathlib.Core.Path.{_≡_}
 use mathlib.Core.List.{List}
 use lib.ListN.{length}
-use Rattle.name_index.specs.Index.{Indexed}
+use Rattle.name_index.specs.declared.Run.{Run}
+use Rattle.name_index.specs.inner.Index.{Indexed}
 use Rattle.layout.specs.declared.Layout.{Layout}
 use Rattle.layout.specs.Layout.{count, size, firstOf}
 
@@ -19,7 +20,11 @@ mask = 511
 abbrev pub tableSize : ℕ
 tableSize = 842
 
--- the names of a kind's records, behind those of the kinds below; factors have none
+-- the names of a kind's records, behind those of the kinds below
+abbrev pub runOf : Layout → ℕ → Run
+runOf l kind = record { first = firstOf l kind + 1; stride = size kind; count = count l kind; base = named l - count l kind; mask = mask }
+
+-- the table holds the names of a kind's records; factors have none
 pub record Listed (s : List ℕ) (l : Layout) (kind : ℕ) (table : List ℕ) : Type 0 where
   pub full : length table ≡ tableSize
-  pub holds : kind ≤ 5 → Indexed mask s (firstOf l kind + 1) (size kind) (named l - count l kind) (count l kind) table
+  pub holds : kind ≤ 5 → Indexed s (runOf l kind) table

@@ -5,7 +5,9 @@ ghost use lib.ListN.{length, drop};
 ghost use Rattle.records.specs.Bodies.{bodyLength, bodyIn};
 ghost use Rattle.records.specs.Rows.{repeats};
 ghost use Rattle.layout.specs.Layout.{one, count, counted, size, firstOf, startOf, extent, bodyAt, contentAt, Allowed};
-ghost use Rattle.layout.specs.Listed.{named, Listed};
+ghost use Rattle.layout.specs.Listed.{named, runOf, Listed};
+ghost use Rattle.name_index.specs.inner.Index.{withNext};
+use name_index::Run;
 
 // Of the index of names: its hashes are up to this.
 const MASK: usize = 511;
@@ -104,11 +106,18 @@ fn named_of(l: Layout) -> usize
 // Whether the record at `at`, behind the others of its kind, has the name of one of them. The table, which holds their names, then holds its name too.
 pub fn repeated(s: &[u8], l: Layout, kind: u8, at: usize, table: &mut [u16]) -> bool
     requires { ⌜ (1 ≤ kind) × (kind ≤ 5) × (at ≡ startOf l kind (count l kind)) × (at + size kind ≤ length (now s)) × Allowed l × Listed (now s) l kind (now table) ⌝ }
-    ensures { λ r. ⌜ (r ≡ repeats (contentAt (now (s .entry)) l) kind (bodyIn kind (drop (at + 1) (now (s .entry))))) × Listed (now (s .entry)) (counted l kind) kind (now (table .exit)) ⌝ }
+    ensures { λ r. ⌜ (r ≡ repeats (contentAt (now (s .entry)) l) kind (bodyIn kind (drop (at + 1) (now (s .entry))))) × Listed (now (s .entry)) (counted l kind) kind (now (table .exit)) × (now (table .exit) ≡ withNext (now (s .entry)) (runOf l kind) (now (table .entry))) ⌝ }
 {
-    let n = count_of(l, kind);
+    let count = count_of(l, kind);
     let stride = size_of(kind);
-    let first = at - stride * n + 1;
-    let below = named_of(l) - n;
-    name_index::seen_before(s, at + 1, first, stride, below, n, MASK, table)
+    let first = at - stride * count + 1;
+    let base = named_of(l) - count;
+    let run = Run {
+        first: first,
+        stride: stride,
+        count: count,
+        base: base,
+        mask: MASK,
+    };
+    name_index::seen_before(s, run, table)
 }

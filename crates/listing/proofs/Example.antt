@@ -1,4 +1,4 @@
--- The listing of document 01's sheet S. Assumes nothing.
+-- The listing of document 01's sheet S.
 use mathlib.Core.Path.{_≡_}
 use mathlib.Core.List.{[], _∷_, _++_}
 use lib.IntN.{pos, negsuc}

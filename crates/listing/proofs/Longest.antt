@@ -1,4 +1,4 @@
--- The listing of a settled statement has at most 288 bytes. Assumes nothing.
+-- The listing of a settled statement has at most 288 bytes.
 use mathlib.Core.Path.{_≡_, ap}
 use mathlib.Core.List.{List, [], _∷_}
 use Prim.Native.Nat.{ℕ, zero, suc, _+_, _*_, _≤_, _<_, _^_}

@@ -1,4 +1,4 @@
--- Laws of the listing's parts. Assumes nothing.
+-- Laws of the listing's parts.
 use mathlib.Core.Path.{_≡_}
 use mathlib.Core.List.{List, _++_, append-assoc}
 use Prim.Native.Nat.{ℕ}

@@ -1,4 +1,4 @@
--- The three ends of printing: refused before, refused by row 23, and printed. Assumes nothing.
+-- The three ends of printing: refused before, refused by row 23, and printed.
 use mathlib.Core.Path.{_≡_, refl}
 use mathlib.Core.Bool.{and-false}
 use mathlib.Core.List.{List}
@@ -11,7 +11,7 @@ use Rattle.statement.specs.Statement.{refusedAs}
 use Rattle.writers.specs.Written.{Wrote}
 use Rattle.writers.proofs.Writing.{none, counted}
 use Rattle.listing.specs.declared.Printed.{Printed}
-use Rattle.listing.specs.Listing.{listing, checked, text, printed, buffer}
+use Rattle.listing.specs.Listing.{listing, refusalLine, shown, checked, text, printed, buffer}
 
 module _ (s : Statement) (out : List ℕ) where
   -- t and n are what printing returns, and `new` is the buffer that it leaves
@@ -40,3 +40,13 @@ module _ (s : Statement) (out : List ℕ) where
   pub fits : {new : List ℕ} {n : ℕ} → s .refusal ≡ 0 → length (listing s) ≤ length out → Wrote (listing s) out new n → Ended s n new
   unfolding text
   fits h room w = ended (kept room) (rw (kept room, eq-eqb (s .refusal) 0 h) refl) w
+
+-- what the program prints, by the statement's number
+module _ (s : Statement) where
+  pub shown-refused : (s .refusal ≡ 0 → ⊥) → refusalLine (s .refusal) ≡ shown s
+  unfolding shown
+  shown-refused h = rw (ne-eqb (s .refusal) 0 h) refl
+
+  pub shown-accepted : s .refusal ≡ 0 → listing s ≡ shown s
+  unfolding shown
+  shown-accepted h = rw (eq-eqb (s .refusal) 0 h) refl

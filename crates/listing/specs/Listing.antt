@@ -1,4 +1,4 @@
--- The printed statement (document 01, 'The printed statement' and row 23). Assumes nothing.
+-- The printed statement (document 01, 'The printed statement' and row 23).
 use mathlib.Core.Bool.{cond, _&&_}
 use mathlib.Core.List.{List, [], _++_}
 use Prim.Native.Nat.{ℕ}
@@ -34,6 +34,10 @@ listing s =
 -- the one line of a refusal
 unfoldable pub refusalLine : ℕ → List ℕ
 refusalLine n = line (ascii "refused ") (pos n)
+
+-- what the program prints of a statement: the listing of an accepted one, the one line of a refused one
+unfoldable pub shown : Statement → List ℕ
+shown s = cond (eqb (s .refusal) 0) (listing s) (refusalLine (s .refusal))
 
 -- the statement after row 23: refused where it was accepted and the output buffer is shorter than the listing
 unfoldable pub checked : Statement → List ℕ → Statement

@@ -1,4 +1,4 @@
--- The listing in the parts that are written one behind the other. Assumes nothing.
+-- The listing in the parts that are written one behind the other.
 use mathlib.Core.List.{List, _++_}
 use Prim.Native.Nat.{ℕ}
 use lib.IntN.{ℤ}

@@ -1,4 +1,4 @@
--- How large a settlement's figures are at most, by the ranges of what sheet and list hold. Assumes nothing.
+-- How large a settlement's figures are at most, by the ranges of what sheet and list hold.
 use mathlib.Core.Path.{_≡_}
 use Prim.Native.Nat.{_<_, _^_}
 use lib.IntN.{pos, natAbs, negℤ}

@@ -9,8 +9,11 @@ use writers::put;
 ghost use mathlib.Core.Path.{_≡_};
 ghost use lib.ListN.{length};
 ghost use Rattle.io.specs.Counts.{Counts};
-ghost use Rattle.writers.specs.Written.{written};
-ghost use Rattle.listing.specs.Listing.{refusalLine, printed, buffer};
+ghost use Rattle.writers.specs.Written.{written, Wrote};
+ghost use Rattle.listing.specs.Listing.{refusalLine, shown, printed, buffer};
+
+// Room for every listing and every refusal's line, whatever the figures are.
+pub const ROOM: usize = 394;
 
 // What printing leaves: the statement after row 23, and how many bytes of the output buffer were printed.
 #[repr(C)]
@@ -32,7 +35,7 @@ pub fn print(s: Statement, out: &mut [u8]) -> Printed
             length: 0,
         };
     }
-    let mut scratch = [0u8; 394];
+    let mut scratch = [0u8; ROOM];
     let n = put_listing(s, &mut scratch);
     if out.len() < n {
         return Printed {
@@ -53,4 +56,15 @@ pub fn refusal_line(n: u8, out: &mut [u8; 32]) -> usize
     ensures { λ r. ⌜ Counts r (now (out .exit)) ⌝ }
 {
     put_line(b"refused ", n as i64, out)
+}
+
+// What the program prints of a statement, at the front of a buffer that has room for it: the listing, or the one line of a
+// refusal. Returns its length.
+pub fn show(s: Statement, out: &mut [u8; ROOM]) -> usize
+    ensures { λ r. ⌜ Wrote (shown s) (now (out .entry)) (now (out .exit)) r ⌝ }
+{
+    if s.refusal != 0 {
+        return put_line(b"refused ", s.refusal as i64, out);
+    }
+    put_listing(s, out)
 }

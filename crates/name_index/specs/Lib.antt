@@ -1,1 +1,1 @@
-pub mod Index
+pub mod inner

@@ -1,4 +1,4 @@
--- Bounds: nothing on the way to the amount leaves an i64. Assumes nothing.
+-- Bounds: nothing on the way to the amount leaves an i64.
 use Prim.Native.Nat.{ℕ, _≤_}
 use mathlib.Core.Path.{_≡_, refl}
 use native.Mathlib.Omega.{arith}
@@ -11,7 +11,7 @@ use Rattle.records.specs.declared.Head.{Head}
 use Rattle.records.specs.Valid.{HeadFits}
 use Rattle.figures.specs.Payment.{inWatts, price}
 use Rattle.figures.proofs.Payments.{price-within}
-use Rattle.payment.specs.Payment.{Payable}
+use Rattle.payment.specs.inner.Payment.{Payable}
 
 module _ (h : Head) (v : HeadFits h) (d : ℤ) (b : natAbs d ≤ 20000000000) where
   -- difference × price, then × seconds, where p is the price as the call returned it

@@ -1,1 +1,1 @@
-pub mod Payment
+pub mod inner

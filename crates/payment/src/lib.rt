@@ -3,8 +3,8 @@ ghost use mathlib.Core.Path.{_≡_};
 ghost use Prim.Native.Nat.{_≤_};
 ghost use lib.IntN.{natAbs};
 ghost use Rattle.records.specs.Valid.{HeadFits};
-ghost use Rattle.figures.specs.Payment.{price, amountOf};
-ghost use Rattle.payment.specs.Payment.{paid, paymentOf, Payable};
+ghost use Rattle.figures.specs.Payment.{price, amountOf, payment};
+ghost use Rattle.payment.specs.inner.Payment.{paymentOf, Payable};
 use records::Head;
 
 // entitlement: in watts. price: the one taken.
@@ -41,7 +41,7 @@ fn amount_of(h: Head, difference: i64) -> i64
 
 fn paid_to(h: Head, amount: i64, rto: u8) -> i64
     requires { ⌜ natAbs amount ≤ 2000000000000 ⌝ }
-    ensures { λ r. ⌜ r ≡ paid h amount rto ⌝ }
+    ensures { λ r. ⌜ r ≡ payment h amount rto ⌝ }
 {
     if h.monitoring_rto == rto {
         return amount;

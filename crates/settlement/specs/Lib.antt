@@ -1,3 +1,3 @@
 pub mod Settled
-pub mod Parts
 pub mod Promise
+pub mod inner

@@ -1,19 +1,17 @@
--- The statement of a sheet and an entitlement list: refusals 1 to 22 in the table's order, stage by stage, else every figure. Assumes nothing.
+-- The statement of a sheet and an entitlement list: refusals 1 to 22 in the table's order, stage by stage, else every figure.
 use Prim.Native.Nat.{ℕ}
 use mathlib.Core.Bool.{cond}
 use mathlib.Core.List.{List}
 use lib.Dec.{eqb}
 use lib.IntN.{ℤ}
 use Rattle.records.specs.Content.{Content, head}
-use Rattle.sheet.specs.declared.Outcome.{Outcome}
-use Rattle.sheet.specs.declared.Outcome.the-variants.{Accepted, Refused}
-use Rattle.sheet.specs.Sheet.{readSheet, contentOf}
+use Rattle.sheet.specs.Sheet.{Reading, holds, fails, reading}
 use Rattle.entitlements.specs.declared.Entitlement.{Entitlement}
 use Rattle.entitlements.specs.declared.Entitlement.the-variants as found
 use Rattle.entitlements.specs.Entitlements.{entitlement}
 use Rattle.figures.specs.Balance.{balanceRow}
 use Rattle.figures.specs.Flow.{common, generationToLoad, firstRemainder, secondRemainder, parallel, shadow, redirect, nonCommonRedirect, marketFlow, flowRow}
-use Rattle.figures.specs.Payment.{inWatts, priceTaken, amount, payment}
+use Rattle.figures.specs.Payment.{inWatts, difference, price, amount, payment}
 use Rattle.statement.specs.declared.Statement.{Statement}
 use Rattle.statement.specs.Statement.{refusedAs}
 
@@ -31,10 +29,10 @@ figuresAt c e = record {
   noncommon = nonCommonRedirect c;
   market = marketFlow c;
   entitlement = inWatts e;
-  price = priceTaken c e;
+  price = price (head c) (difference c e);
   amount = amount c e;
-  nyiso = payment c e 1;
-  pjm = payment c e 2;
+  nyiso = payment (head c) (amount c e) 1;
+  pjm = payment (head c) (amount c e) 2;
 }
 
 -- a stage answers the row that it met, or 0 and then what comes behind it
@@ -43,7 +41,7 @@ unlessMet row behind = cond (eqb row 0) behind (refusedAs row)
 
 -- the flow: row 22
 unfoldable pub afterBalance : Content → ℤ → Statement
-afterBalance c e = unlessMet (flowRow c e) (figuresAt c e)
+afterBalance c e = unlessMet (flowRow (marketFlow c)) (figuresAt c e)
 
 -- the balance: rows 16 to 21
 unfoldable pub afterList : Content → ℤ → Statement
@@ -62,9 +60,9 @@ unfoldable pub afterSheet : Content → List ℕ → Statement
 afterSheet c list = byList c (entitlement list (flowgate c))
 
 -- the sheet: rows 1 to 13
-unfoldable pub bySheet : Content → List ℕ → Outcome → Statement
-bySheet c list (Accepted layout) = afterSheet c list
-bySheet c list (Refused row place) = refusedAs row
+unfoldable pub bySheet : List ℕ → Reading → Statement
+bySheet list (holds c) = afterSheet c list
+bySheet list (fails number at) = refusedAs number
 
 unfoldable pub settled : List ℕ → List ℕ → Statement
-settled sheet list = bySheet (contentOf sheet) list (readSheet sheet)
+settled sheet list = bySheet list (reading sheet)

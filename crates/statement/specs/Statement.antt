@@ -1,4 +1,4 @@
--- What a refused statement is (document 01, 'Where each refusal is checked'). Assumes nothing.
+-- What a refused statement is (document 01, 'Where each refusal is checked').
 use Prim.Native.Nat.{ℕ}
 use lib.IntN.{pos}
 use lib.ListN.{replicate}

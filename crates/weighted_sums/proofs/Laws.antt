@@ -1,4 +1,4 @@
--- The weighted sums are the figures of steps 3 to 5; how large a term can be. Assumes nothing.
+-- The weighted sums are the figures of steps 3 to 5; how large a term can be.
 use Prim.Native.Nat.{ℕ, _+_, _*_, _≤_, _<_}
 use native.Mathlib.Nat.{le-refl, le-trans}
 use native.Mathlib.Omega.{arith}
@@ -24,7 +24,7 @@ use Rattle.figures.specs.Balance.{zoneLoad, output}
 use Rattle.figures.specs.Flow.{unitFactor, zoneFactor, pointFactor, parFactor, outputTerm, weightedOutput, loadTerm, weightedLoad, netSchedule, scheduleTerm, scheduleFlow, controlTerm, control}
 use Rattle.figures.proofs.Numbers.{cond-within, times-within}
 use Rattle.figures.proofs.Ranges.{output-within, zone-load-within}
-use Rattle.weighted_sums.specs.Weighted.{OnTarget, gapIn, powerOf, weightedTerm, members, weightedSum}
+use Rattle.weighted_sums.specs.inner.Weighted.{OnTarget, gapIn, powerOf, weightedTerm, members, weightedSum}
 
 -- the class is asked before or after the factor
 gap-times : (b : Bool) (x f : ℤ) → cond b (x *ℤ pos 10) (pos 0) *ℤ f ≡ cond b (x *ℤ f *ℤ pos 10) (pos 0)

@@ -1,1 +1,1 @@
-pub mod Weighted
+pub mod inner

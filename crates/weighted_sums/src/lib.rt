@@ -5,7 +5,7 @@ ghost use lib.IntN.{natAbs};
 ghost use Rattle.due_factors.specs.Due.{Asked, howMany};
 ghost use Rattle.sheet.specs.Sheet.{readSheet, contentOf};
 ghost use Rattle.sheet.specs.declared.Outcome.the-variants.{Accepted};
-ghost use Rattle.weighted_sums.specs.Weighted.{Given, OnTarget, gapIn, powerOf, weightedTerm, weightedSum};
+ghost use Rattle.weighted_sums.specs.inner.Weighted.{Given, OnTarget, gapIn, powerOf, weightedTerm, weightedSum};
 
 // A factor's subjects.
 pub const UNIT: u8 = 1;

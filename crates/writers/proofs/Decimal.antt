@@ -1,4 +1,4 @@
--- Laws of decimal texts: their digits one by one, and how many there are. Assumes nothing.
+-- Laws of decimal texts: their digits one by one, and how many there are.
 use mathlib.Core.Path.{_≡_, refl, ap}
 use mathlib.Core.Bool.{cond}
 use mathlib.Core.List.{List, [], _∷_, _++_}

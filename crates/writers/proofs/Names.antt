@@ -1,4 +1,4 @@
--- Laws of the hexadecimal text of a name. Assumes nothing.
+-- Laws of the hexadecimal text of a name.
 use mathlib.Core.Path.{_≡_, refl}
 use mathlib.Core.List.{List, [], _∷_, _++_}
 use Prim.Native.Nat.{ℕ, suc, _-_}

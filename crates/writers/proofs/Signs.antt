@@ -1,4 +1,4 @@
--- Laws of the decimal text of an i64. Assumes nothing.
+-- Laws of the decimal text of an i64.
 use mathlib.Core.Path.{_≡_, refl, ap}
 use mathlib.Core.List.{List, _++_}
 use Prim.Native.Nat.{ℕ, _≤_}

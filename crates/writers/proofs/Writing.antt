@@ -1,4 +1,4 @@
--- Laws of writers: what one leaves that wrote nothing, one byte more, or behind another. Assumes nothing.
+-- Laws of writers: what one leaves that wrote nothing, one byte more, or behind another.
 use mathlib.Core.Path.{_≡_, refl, sym, subst}
 use mathlib.Core.List.{List, [], _∷_, _++_, append-nil, append-assoc}
 use Prim.Native.Nat.{ℕ, suc, _+_, _-_, _<_}

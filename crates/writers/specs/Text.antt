@@ -1,4 +1,4 @@
--- Texts, numbers and names as bytes (document 01, 'The printed statement'). Assumes nothing.
+-- Texts, numbers and names as bytes (document 01, 'The printed statement').
 use mathlib.Core.Bool.{cond}
 use mathlib.Core.List.{List, [], _∷_, _++_}
 use Prim.Native.Nat.{ℕ, zero, suc, _/_, _%_}

@@ -1,4 +1,4 @@
--- What stands in a buffer after bytes were written to its front. Assumes nothing.
+-- What stands in a buffer after bytes were written to its front.
 use mathlib.Core.Path.{_≡_}
 use mathlib.Core.List.{List, _++_}
 use Prim.Native.Nat.{ℕ}

@@ -1,4 +1,4 @@
--- `balance_of` meets its contract. Assumes nothing.
+-- `balance_of` meets its contract.
 use mathlib.Core.Path.{_≡_, refl, sym, ap, ap₂, _∙_}
 use native.Mathlib.Omega.{arith}
 use Prim.Native.Nat.{_≤_}
@@ -10,8 +10,8 @@ use borrow.Author.Needs.{needs}
 use Rattle.records.specs.Valid.{Valid}
 use Rattle.sheet.specs.Sheet.{contentOf}
 use Rattle.sheet.proofs.Accepted.{valid, counts}
-use Rattle.balance.specs.Ledger.{loads, outputs, imports, exports, bookings}
-use Rattle.balance.specs.Balance.{rowOf}
+use Rattle.balance.specs.inner.Ledger.{loads, outputs, imports, exports, bookings}
+use Rattle.balance.specs.inner.Balance.{rowOf}
 use Rattle.balance.proofs.Bookings.{small-of}
 use Rattle.balance.proofs.Rows.{load-side, generation-side, rows-are}
 use Rattle.balance.proofs.balance_of.Statement.{statement}

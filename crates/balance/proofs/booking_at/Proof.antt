@@ -1,4 +1,4 @@
--- `booking_at` meets its contract. Assumes nothing.
+-- `booking_at` meets its contract.
 use mathlib.Core.Path.{_≡_, sym, ap, _∙_}
 use Prim.Native.Nat.{ℕ, _<_, _+_}
 use native.Mathlib.Omega.{arith}
@@ -8,7 +8,7 @@ use denote.Ref.{now}
 use lib.ListN.{length}
 use Rattle.sheet.specs.Sheet.{contentOf}
 use Rattle.sheet.proofs.Accepted.{valid, counts}
-use Rattle.balance.specs.Ledger.{bookingOf, bookings}
+use Rattle.balance.specs.inner.Ledger.{bookingOf, bookings}
 use Rattle.balance.proofs.booking_at.Statement.{statement}
 use Rattle.balance.proofs.booking_at.Tie as tie
 

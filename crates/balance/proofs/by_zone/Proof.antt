@@ -1,4 +1,4 @@
--- `by_zone` meets its contract: after i turns the array holds the sums over the first i bookings. Assumes nothing.
+-- `by_zone` meets its contract: after i turns the array holds the sums over the first i bookings.
 use mathlib.Core.Path.{_≡_, refl, sym, ap, _∙_}
 use Prim.Native.Nat.{ℕ, _≤_, _<_, _+_, _-_}
 use native.Mathlib.Omega.{arith}
@@ -10,7 +10,7 @@ use Rattle.integers.specs.Sum.{sumTo}
 use Rattle.integers.proofs.Sums.{sum-zero}
 use Rattle.sheet.specs.Sheet.{contentOf}
 use Rattle.sheet.proofs.Accepted.{valid}
-use Rattle.balance.specs.Ledger.{bookedAt, sumAt}
+use Rattle.balance.specs.inner.Ledger.{bookedAt, sumAt}
 use Rattle.balance.proofs.Bookings.{BookingFits, booking-fits, bookings-most, Part, part-most, turn, zeros}
 use Rattle.balance.proofs.by_zone.Statement.{statement}
 use Rattle.balance.proofs.by_zone.Tie as tie

@@ -1,7 +1,7 @@
--- `generation_row` meets its contract. Assumes nothing.
+-- `generation_row` meets its contract.
 use mir.Facts.{toZ-ofZ}
 use borrow.Author.Needs.{needs}
-use Rattle.balance.specs.Balance.{generationRow}
+use Rattle.balance.specs.inner.Balance.{generationRow}
 use Rattle.balance.proofs.generation_row.Statement.{statement}
 use Rattle.balance.proofs.generation_row.Tie as tie
 

@@ -1,7 +1,7 @@
--- `gross_row` meets its contract. Assumes nothing.
+-- `gross_row` meets its contract.
 use mir.Facts.{toZ-ofZ}
 use borrow.Author.Needs.{needs}
-use Rattle.balance.specs.Balance.{grossRow}
+use Rattle.balance.specs.inner.Balance.{grossRow}
 use Rattle.balance.proofs.gross_row.Statement.{statement}
 use Rattle.balance.proofs.gross_row.Tie as tie
 

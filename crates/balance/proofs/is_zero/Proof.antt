@@ -1,4 +1,4 @@
--- `is_zero` meets its contract. Assumes nothing.
+-- `is_zero` meets its contract.
 use mathlib.Core.Path.{_≡_, refl, sym, ap, _∙_}
 use Prim.Native.Nat.{zero, suc}
 use native.Mathlib.Nat.{suc-ne-zero}

@@ -1,8 +1,8 @@
--- `load_row` meets its contract. Assumes nothing.
+-- `load_row` meets its contract.
 use mir.Facts.{toZ-ofZ}
 use mathlib.Core.Path.{_∙_}
 use borrow.Author.Needs.{needs}
-use Rattle.balance.specs.Balance.{loadRow}
+use Rattle.balance.specs.inner.Balance.{loadRow}
 use Rattle.balance.proofs.load_row.Statement.{statement}
 use Rattle.balance.proofs.load_row.Tie as tie
 

@@ -1,4 +1,4 @@
--- `net_at` meets its contract. Assumes nothing.
+-- `net_at` meets its contract.
 use native.Mathlib.Omega.{arith}
 use Prim.Native.Nat.{_+_}
 use borrow.Author.Needs.{needs}

@@ -1,4 +1,4 @@
--- `net_of` meets its contract. Assumes nothing.
+-- `net_of` meets its contract.
 use Prim.Native.Nat.{_≤_, _<_, _+_, _*_, _-_}
 use mathlib.Core.Path.{_≡_, sym, ap, _∙_}
 use native.Mathlib.Omega.{arith}
@@ -9,7 +9,7 @@ use denote.Ref.{now}
 use Rattle.integers.specs.Sum.{sumTo}
 use Rattle.integers.proofs.Sums.{sum-zero, next}
 use Rattle.integers.proofs.Machine.{Op, rd}
-use Rattle.balance.specs.Ledger.{netAt}
+use Rattle.balance.specs.inner.Ledger.{netAt}
 use Rattle.balance.proofs.Laws.{net-most}
 use Rattle.balance.proofs.net_of.Statement.{statement}
 use Rattle.balance.proofs.net_of.Tie as tie

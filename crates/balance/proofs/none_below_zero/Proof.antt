@@ -1,4 +1,4 @@
--- `none_below_zero` meets its contract. Assumes nothing.
+-- `none_below_zero` meets its contract.
 use Prim.Native.Nat.{_≤_, _<_, _-_}
 use mathlib.Core.Path.{_≡_, sym, ap, _∙_}
 use mathlib.Core.Bool.{true, false}
@@ -13,7 +13,7 @@ use borrow.Author.Needs.{needs}
 use Rattle.integers.specs.Sum.{allTo}
 use Rattle.integers.proofs.Sums.{all-zero, all-more, all-stop}
 use Rattle.figures.specs.Balance.{atLeastZero}
-use Rattle.balance.specs.Ledger.{netAt}
+use Rattle.balance.specs.inner.Ledger.{netAt}
 use Rattle.balance.proofs.Laws.{below, not-below}
 use Rattle.balance.proofs.none_below_zero.Statement.{statement}
 use Rattle.balance.proofs.none_below_zero.Tie as tie

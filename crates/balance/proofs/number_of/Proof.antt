@@ -1,6 +1,6 @@
--- `number_of` meets its contract. Assumes nothing.
+-- `number_of` meets its contract.
 use borrow.Author.Needs.{needs}
-use Rattle.balance.specs.Ledger.{numberOf}
+use Rattle.balance.specs.inner.Ledger.{numberOf}
 use Rattle.balance.proofs.number_of.Statement.{statement}
 use Rattle.balance.proofs.number_of.Tie as tie
 

@@ -1,7 +1,7 @@
--- `point_booking` meets its contract. Assumes nothing.
+-- `point_booking` meets its contract.
 use borrow.Author.Needs.{needs}
 use borrow.Author.Tests.{eq-eqb, ne-eqb}
-use Rattle.balance.specs.Ledger.{pointBooking}
+use Rattle.balance.specs.inner.Ledger.{pointBooking}
 use Rattle.balance.proofs.point_booking.Statement.{statement}
 use Rattle.balance.proofs.point_booking.Tie as tie
 

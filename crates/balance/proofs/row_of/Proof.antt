@@ -1,9 +1,9 @@
--- `row_of` meets its contract. Assumes nothing.
+-- `row_of` meets its contract.
 use mir.Facts.{toZ-ofZ}
 use mir.Syntax.{w64}
 use mir.Val.{SFits}
 use borrow.Author.Needs.{needs}
-use Rattle.balance.specs.Balance.{rowOf}
+use Rattle.balance.specs.inner.Balance.{rowOf}
 use Rattle.balance.proofs.row_of.Statement.{statement}
 use Rattle.balance.proofs.row_of.Tie as tie
 

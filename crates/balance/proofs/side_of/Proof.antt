@@ -1,4 +1,4 @@
--- `side_of` meets its contract. Assumes nothing.
+-- `side_of` meets its contract.
 use mathlib.Core.Path.{_≡_, refl, sym, ap, _∙_}
 use native.Mathlib.Omega.{arith}
 use mir.Facts.{toZ-ofZ}
@@ -6,8 +6,8 @@ use mir.Syntax.{w64}
 use mir.Val.{SFits}
 use lib.ListN.{replicate}
 use borrow.Author.Needs.{needs}
-use Rattle.balance.specs.Ledger.{Small}
-use Rattle.balance.specs.Balance.{sideOf}
+use Rattle.balance.specs.inner.Ledger.{Small}
+use Rattle.balance.specs.inner.Balance.{sideOf}
 use Rattle.balance.proofs.Laws.{left}
 use Rattle.balance.proofs.Bookings.{zeros}
 use Rattle.balance.proofs.side_of.Statement.{statement}

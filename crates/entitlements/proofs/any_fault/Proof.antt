@@ -1,26 +1,26 @@
--- `any_fault` meets its contract. The loop's invariant: n records have passed, the table holds their names, and what is left decides as the whole list does. Assumes nothing.
+-- `any_fault` meets its contract. The loop's invariant: n records have passed, the table holds their names, and what is left decides as the whole list does.
 use Prim.Native.Nat.{_+_, _*_, _-_, _≤_}
 use mathlib.Core.Path.{_≡_, refl, sym, _∙_}
 use native.Mathlib.Omega.{arith}
 use denote.Ref.{now}
 use borrow.Author.Needs.{needs}
 use lib.ListN.{length, drop, length-drop}
-use Rattle.name_index.specs.Index.{Indexed}
+use Rattle.name_index.specs.inner.Index.{Indexed, namesAt}
 use Rattle.entitlements.proofs.Walk.{first-next, fault-here, fault-on, fault-end}
 use Rattle.entitlements.proofs.Records.{passes}
-use Rattle.entitlements.specs.Steps.{firstEntries}
+use Rattle.entitlements.specs.inner.Steps.{runOf, firstNames}
 use Rattle.entitlements.specs.Entitlements.{anyFault, row14, recordLength}
 use Rattle.entitlements.proofs.any_fault.Statement.{statement}
 use Rattle.entitlements.proofs.any_fault.Tie as tie
 
 abbrev Inv-loop : tie.InvT-loop
-Inv-loop list mask table₀ at₀ n₀ table at n = (at ≡ recordLength * n) × (at ≤ length list) × (anyFault (firstEntries list n) 0 (drop at list) ≡ row14 list) × (length table ≡ length table₀) × Indexed mask list 1 recordLength 0 n table
+Inv-loop list mask table₀ at₀ n₀ table at n = (at ≡ recordLength * n) × (at ≤ length list) × (anyFault (firstNames list n) 0 (drop at list) ≡ row14 list) × (length table ≡ length table₀) × Indexed list (runOf mask n) table
 
 abbrev μ-loop : tie.MeasureT-loop
 μ-loop list mask table₀ at₀ n₀ table at n = length list - at
 
 loop-holds : tie.Need-loop-holds Inv-loop μ-loop
-unfolding firstEntries
+unfolding namesAt
 loop-holds c = (omega arith, omega arith, refl, refl, c .before .before .pre .1)
 
 record-fault-requires : tie.Need-record-fault-requires Inv-loop μ-loop

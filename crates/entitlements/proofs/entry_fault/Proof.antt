@@ -1,4 +1,4 @@
--- `entry_fault` meets its contract. Assumes nothing.
+-- `entry_fault` meets its contract.
 use mathlib.Core.Path.{ap, _∙_}
 use mir.Facts.{toZ-ofZ}
 use mir.Syntax.{w64}
@@ -6,7 +6,7 @@ use mir.Val.{SFits}
 use borrow.Author.Needs.{needs}
 use lib.IntN.{natAbs}
 use Rattle.names.specs.Names.{nameOk}
-use Rattle.entitlements.specs.Entitlements.{entryOf, badName, outOfRange}
+use Rattle.entitlements.specs.Entitlements.{entryOf}
 use Rattle.entitlements.proofs.entry_fault.Statement.{statement}
 use Rattle.entitlements.proofs.entry_fault.Tie as tie
 
@@ -23,7 +23,7 @@ name-ok-requires : tie.Need-name-ok-requires
 name-ok-requires c κs = search needs
 
 returns : tie.Need-returns
-unfolding entryOf badName outOfRange
+unfolding entryOf
 returns c =
     let p = c .before .before in
     let n = c .name-ok .ensures ∙ ap nameOk (c .before .name-at .ensures) in

@@ -1,4 +1,4 @@
--- `find` meets its contract. Assumes nothing.
+-- `find` meets its contract.
 use mathlib.Core.Path.{sym, _∙_}
 use borrow.Author.Needs.{needs}
 use Rattle.entitlements.specs.Entitlements.{entitlement}

@@ -1,4 +1,4 @@
--- `look_up` meets its contract. The loop's invariant: what is left of the list is whole records, and answers as the whole list does. Assumes nothing.
+-- `look_up` meets its contract. The loop's invariant: what is left of the list is whole records, and answers as the whole list does.
 use Prim.Native.Nat.{_+_, _-_, _≤_}
 use mathlib.Core.Path.{_≡_, refl, sym, ap, _∙_}
 use native.Mathlib.Omega.{arith}

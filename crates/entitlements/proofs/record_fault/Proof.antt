@@ -1,4 +1,4 @@
--- `record_fault` meets its contract: the conditions one after the other. Assumes nothing.
+-- `record_fault` meets its contract: the conditions one after the other.
 use Prim.Native.Nat.{_+_, _≤_, _<_}
 use mathlib.Core.Bool.{true≢false}
 use mathlib.Core.Path.{_≡_, sym, _∙_}
@@ -6,10 +6,13 @@ use native.Mathlib.Omega.{arith}
 use denote.Ref.{now}
 use borrow.Author.Needs.{needs}
 use lib.ListN.{length, drop, length-drop}
+use Rattle.names.specs.Names.{seenBefore}
+use Rattle.name_index.specs.inner.Index.{placeOf}
+use Rattle.name_index.proofs.Laws.{next-indexed}
 use Rattle.entitlements.proofs.Walk.{first-count, tail-part}
-use Rattle.entitlements.proofs.Records.{fault-cut, fault-full, fault-twice, fault-new, seen-repeated}
-use Rattle.entitlements.specs.Steps.{firstEntries}
-use Rattle.entitlements.specs.Entitlements.{mostRecords, entryOf, otherKind, repeated}
+use Rattle.entitlements.proofs.Records.{fault-cut, fault-full, fault-twice, fault-new}
+use Rattle.entitlements.specs.inner.Steps.{runOf, firstNames}
+use Rattle.entitlements.specs.Entitlements.{mostRecords, entryOf}
 use Rattle.entitlements.proofs.record_fault.Statement.{statement}
 use Rattle.entitlements.proofs.record_fault.Tie as tie
 
@@ -33,20 +36,23 @@ seen-before-requires : tie.Need-seen-before-requires
 seen-before-requires c κs =
     let p = c .before .before .before .before .before in
     let r = p .pre .2 .room (p .args .n) (c .before .if2 .left) (omega arith) in
-    (omega arith, omega arith, omega arith, omega arith, p .pre .3)
+    (omega arith, omega arith, omega arith, p .pre .3)
 
 same-length : tie.Need-same-length
 same-length c = search needs
 
 -- what the index says of the name
-repeated-is : (c : tie.After-seen-before) →
+seen-is : (c : tie.After-seen-before) →
     let a = c .before .before .before .before .before .before .args in
-    c .seen-before .result ≡ repeated (firstEntries (now (a .list)) (a .n)) (entryOf (drop (a .at + 1) (now (a .list))) .name)
+    c .seen-before .result ≡ seenBefore (firstNames (now (a .list)) (a .n)) (entryOf (drop (a .at + 1) (now (a .list))) .name)
 unfolding entryOf
-repeated-is c = c .seen-before .ensures .0 ∙ seen-repeated _ _ _
+seen-is c =
+    let p = c .before .before .before .before .before .before in
+    let e : placeOf (runOf (p .args .mask) (p .args .n)) (p .args .n) ≡ p .args .at + 1 = omega arith in
+    rw e at (c .seen-before .ensures .0)
 
 returns-3 : tie.Need-returns-3
-returns-3 c = record { told = sym (fault-twice _ _ _ (sym (repeated-is (c .before .before .before)) ∙ c .if3 .taken)); added = λ e. absurd (true≢false e) }
+returns-3 c = record { told = sym (fault-twice _ _ _ (sym (seen-is (c .before .before .before)) ∙ c .if3 .taken)); added = λ e. absurd (true≢false e) }
 
 shared-slice-read-result : tie.Need-shared-slice-read-result
 shared-slice-read-result c = search needs
@@ -67,17 +73,18 @@ same-length-2 : tie.Need-same-length-2
 same-length-2 c = search needs
 
 returns-4 : tie.Need-returns-4
-unfolding otherKind
 returns-4 c =
     let t = c .before .before .before in
     let x = t .before .before .before in
     let q = x .before .before in
-    let a = q .before .before .before .before .args in
+    let g = q .before .before .before .before in
+    let a = g .args in
     let s = now (a .list) in
+    let r = g .pre .2 .room (a .n) (q .if2 .left) (omega arith) in
     let w : 20 ≤ length (drop (a .at + 1) s) = rw (length-drop (a .at + 1) s) (q .before .if1 .left) in
-    let f : length (firstEntries s (a .n)) < mostRecords = rw (first-count s (a .n)) (q .if2 .left) in
+    let f : length (firstNames s (a .n)) < mostRecords = rw (first-count s (a .n)) (q .if2 .left) in
     let e = rw (tail-part s (a .at + 1)) at (c .entry-fault .ensures) in
-    record { told = rw (fault-new _ _ _ w f (sym (repeated-is x) ∙ t .if3 .left), e); added = λ u. x .seen-before .ensures .1 }
+    record { told = rw (fault-new _ _ _ w f (sym (seen-is x) ∙ t .if3 .left), e); added = λ u. rw (x .seen-before .ensures .1) (next-indexed s (runOf (a .mask) (a .n)) (now (a .table)) (g .pre .3) (omega (arith, r))) }
 
 pub record-fault-spec : {M : Type 1} → statement M
 record-fault-spec =

@@ -1,4 +1,4 @@
--- `value_of` meets its contract: 32 bits in two's complement keep their number in 64. Assumes nothing.
+-- `value_of` meets its contract: 32 bits in two's complement keep their number in 64.
 use mir.Facts.{toZ-ofZ, sfits-widen}
 use mir.Syntax.{w32}
 use mir.Val.{SFits}

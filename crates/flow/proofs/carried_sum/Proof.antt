@@ -1,4 +1,4 @@
--- `carried_sum` meets its contract. Assumes nothing.
+-- `carried_sum` meets its contract.
 use Prim.Native.Nat.{_≤_, _+_, _*_, _-_}
 use mathlib.Core.Path.{_≡_, sym, ap, _∙_}
 use native.Mathlib.Omega.{arith}

@@ -1,4 +1,4 @@
--- `carried_term` meets its contract. Assumes nothing.
+-- `carried_term` meets its contract.
 use mathlib.Core.Path.{ap, _∙_}
 use borrow.Author.Needs.{needs}
 use mir.Facts.{toZ-ofZ}

@@ -1,4 +1,4 @@
--- `flow_of` meets its contract. Assumes nothing.
+-- `flow_of` meets its contract.
 use native.Mathlib.Omega.{arith}
 use borrow.Author.Needs.{needs}
 use Rattle.figures.specs.Flow.{common, noncommon}
@@ -36,8 +36,8 @@ market-flow-requires c κs =
       read-within (noncommon-num r _ (n .noncommon-redirect .ensures)),
     )
 
-row-of-requires : tie.Need-row-of-requires
-row-of-requires c κs = search needs
+flow-row-requires : tie.Need-flow-row-requires
+flow-row-requires c κs = search needs
 
 returns : tie.Need-returns
 returns c =
@@ -49,7 +49,7 @@ returns c =
     let x = y .before in
     let g = x .before in
     let r = g .before .before .pre in
-    flow-of-is r _ _ _ _ _ (g .generation-to-load .ensures) (x .weighted .ensures) (y .weighted2 .ensures) (d .redirect .ensures) (n .noncommon-redirect .ensures) _ _ (m .market-flow .ensures) (o .row-of .ensures)
+    flow-of-is r _ _ _ _ _ (g .generation-to-load .ensures) (x .weighted .ensures) (y .weighted2 .ensures) (d .redirect .ensures) (n .noncommon-redirect .ensures) _ _ (m .market-flow .ensures) (o .flow-row .ensures)
 
 pub flow-of-spec : {M : Type 1} → statement M
 flow-of-spec =
@@ -61,5 +61,5 @@ flow-of-spec =
     redirect-requires
     noncommon-redirect-requires
     market-flow-requires
-    row-of-requires
+    flow-row-requires
     returns)

@@ -1,4 +1,4 @@
--- `generation_to_load` meets its contract. Assumes nothing.
+-- `generation_to_load` meets its contract.
 use borrow.Author.Needs.{needs}
 use Rattle.figures.proofs.Balanced.{net-load-above, net-generation-above}
 use Rattle.flow.proofs.Laws.{read-within, read-above, no-row, gross, net-load, net-generation, final-generation, output, load, share, gtl-is}

@@ -1,4 +1,4 @@
--- `load_share` meets its contract. Assumes nothing.
+-- `load_share` meets its contract.
 use native.Mathlib.Nat.{le-refl}
 use borrow.Author.Needs.{needs}
 use lib.IntN.{ℤ, pos, _*ℤ_}

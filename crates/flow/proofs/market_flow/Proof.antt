@@ -1,4 +1,4 @@
--- `market_flow` meets its contract. Assumes nothing.
+-- `market_flow` meets its contract.
 use lib.IntN.{ℤ, _+ℤ_, _-ℤ_}
 use lib.Dec.{lit<}
 use Rattle.integers.proofs.Machine.{Op, rd, num, add, sub}

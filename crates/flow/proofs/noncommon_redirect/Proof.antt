@@ -1,4 +1,4 @@
--- `noncommon_redirect` meets its contract. Assumes nothing.
+-- `noncommon_redirect` meets its contract.
 use mathlib.Core.Path.{ap, _∙_}
 use borrow.Author.Needs.{needs}
 use mir.Facts.{toZ-ofZ}

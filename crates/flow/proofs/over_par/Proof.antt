@@ -1,4 +1,4 @@
--- `over_par` meets its contract. Assumes nothing.
+-- `over_par` meets its contract.
 use borrow.Author.Needs.{needs}
 use Rattle.flow.proofs.Laws.{par-asked, par-flow, par-share}
 use Rattle.flow.proofs.over_par.Statement.{statement}

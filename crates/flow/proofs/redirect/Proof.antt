@@ -1,4 +1,4 @@
--- `redirect` meets its contract. Assumes nothing.
+-- `redirect` meets its contract.
 use borrow.Author.Needs.{needs}
 use lib.IntN.{_-ℤ_}
 use denote.Ref.{now}

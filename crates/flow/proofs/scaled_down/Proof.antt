@@ -1,4 +1,4 @@
--- `scaled_down` meets its contract. Assumes nothing.
+-- `scaled_down` meets its contract.
 use native.Mathlib.Nat.{le-refl}
 use borrow.Author.Needs.{needs}
 use lib.Dec.{lit<}

@@ -1,4 +1,4 @@
--- `print` ends in one of three ways. The scratch array begins with the listing. Assumes nothing.
+-- `print` ends in one of three ways. The scratch array begins with the listing.
 use mathlib.Core.List.{List}
 use mathlib.Core.Path.{_≡_, ap}
 use Prim.Native.Nat.{ℕ}

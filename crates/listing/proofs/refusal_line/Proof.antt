@@ -1,4 +1,4 @@
--- `refusal_line` writes a line with the number as it stands. Assumes nothing.
+-- `refusal_line` writes a line with the number as it stands.
 use native.Mathlib.Omega.{arith}
 use borrow.Author.Needs.{needs}
 use mir.Syntax.{w64}

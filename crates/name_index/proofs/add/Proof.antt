@@ -1,7 +1,8 @@
--- `add` meets its contract. Assumes nothing.
+-- `add` meets its contract.
 use native.Mathlib.Omega.{arith}
 use borrow.Author.Needs.{needs}
 use lib.ListN.{length-set}
+use Rattle.name_index.specs.inner.Index.{withHash}
 use Rattle.name_index.proofs.add.Statement.{statement}
 use Rattle.name_index.proofs.add.Tie as tie
 
@@ -39,6 +40,7 @@ same-length : tie.Need-same-length
 same-length c = search needs
 
 returns : tie.Need-returns
+unfolding withHash
 returns c = search needs
 
 pub add-spec : {M : Type 1} → statement M

@@ -1,7 +1,7 @@
--- `hash` meets its contract. Assumes nothing.
+-- `hash` meets its contract.
 use mathlib.Core.Path.{refl}
 use borrow.Author.Needs.{needs}
-use Rattle.name_index.specs.Index.{hashOf}
+use Rattle.name_index.specs.inner.Index.{hashOf}
 use Rattle.name_index.proofs.hash.Statement.{statement}
 use Rattle.name_index.proofs.hash.Tie as tie
 

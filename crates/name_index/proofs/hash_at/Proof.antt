@@ -1,6 +1,6 @@
--- `hash_at` meets its contract. Assumes nothing.
+-- `hash_at` meets its contract.
 use borrow.Author.Needs.{needs}
-use Rattle.name_index.specs.Index.{hashAt}
+use Rattle.name_index.specs.inner.Index.{hashAt}
 use Rattle.name_index.proofs.hash_at.Statement.{statement}
 use Rattle.name_index.proofs.hash_at.Tie as tie
 

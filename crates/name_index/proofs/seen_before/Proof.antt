@@ -1,12 +1,18 @@
--- `seen_before` meets its contract. Assumes nothing.
+-- `seen_before` meets its contract.
 use mathlib.Core.Path.{ap, _∙_}
 use native.Mathlib.Omega.{arith}
 use denote.Ref.{now}
 use borrow.Author.Needs.{needs}
-use Rattle.name_index.specs.Index.{hashAt}
-use Rattle.name_index.proofs.Laws.{hash-small, added}
+use Rattle.name_index.specs.inner.Index.{placeOf, withNext}
+use Rattle.name_index.proofs.Laws.{hash-small}
 use Rattle.name_index.proofs.seen_before.Statement.{statement}
 use Rattle.name_index.proofs.seen_before.Tie as tie
+
+mul-at : tie.Need-mul-at
+mul-at c = search needs
+
+add-at : tie.Need-add-at
+add-at c = search needs
 
 hash-at-requires : tie.Need-hash-at-requires
 hash-at-requires c κs = search needs
@@ -19,26 +25,27 @@ add-add c = search needs
 
 add-requires : tie.Need-add-requires
 add-requires c κs =
-    let h = c .before .before .before in
-    let a = h .before .before .before .args in
-    omega (arith, h .hash-at .ensures, hash-small (a .mask) (now (a .s)) (a .at))
+    let h = c .before .before .before .before in
+    let p = h .before .before .before .before .before in
+    let a = p .args in
+    omega (arith, p .pre, h .hash-at .ensures, hash-small (a .run .mask) (now (a .s)) (placeOf (a .run) (a .run .count)))
 
 same-length : tie.Need-same-length
 same-length c = search needs
 
 returns : tie.Need-returns
+unfolding withNext
 returns c =
-    let l = c .before .before .before .before in
-    let h = l .before .before in
-    let p = h .before .before .before in
-    let a = p .args in
-    let e = h .hash-at .ensures ∙ ap (hashAt (a .mask) (now (a .s))) (p .pre .0) in
-    (l .listed .ensures, rw (c .before .before .add .ensures) (added (a .mask) (now (a .s)) (a .first) (a .stride) (a .base) (a .n) (now (a .table)) (p .pre .4) (p .pre .3) (h .hash-at .result) e))
+    let d = c .before .before in
+    let l = d .before .before .before in
+    (l .listed .ensures, rw (← l .before .before .hash-at .ensures) (d .add .ensures))
 
 pub seen-before-spec : {M : Type 1} → statement M
 seen-before-spec =
     tie.close
     (tie.spec
+    mul-at
+    add-at
     hash-at-requires
     listed-requires
     add-add

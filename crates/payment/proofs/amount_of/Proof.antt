@@ -1,4 +1,4 @@
--- `amount_of` meets its contract. Assumes nothing.
+-- `amount_of` meets its contract.
 use mathlib.Core.Path.{_≡_, sym, ap, _∙_}
 use mir.Facts.{toZ-ofZ}
 use mir.Syntax.{w64}

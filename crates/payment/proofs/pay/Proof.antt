@@ -1,4 +1,4 @@
--- `pay` meets its contract. Assumes nothing.
+-- `pay` meets its contract.
 use mathlib.Core.Path.{_≡_, refl, sym, ap, _∙_}
 use Prim.Native.Nat.{_≤_}
 use lib.IntN.{ℤ, pos, natAbs, _-ℤ_, _*ℤ_}
@@ -9,7 +9,7 @@ use borrow.Author.Needs.{needs}
 use Rattle.integers.proofs.Machine.{Op, rd}
 use Rattle.figures.specs.Payment.{inWatts, price, amountOf}
 use Rattle.figures.proofs.Payments.{amount-of-within}
-use Rattle.payment.specs.Payment.{paid, paymentOf}
+use Rattle.payment.specs.inner.Payment.{paymentOf}
 use Rattle.payment.proofs.Laws.{watts, gap}
 use Rattle.payment.proofs.pay.Statement.{statement}
 use Rattle.payment.proofs.pay.Tie as tie

@@ -1,4 +1,4 @@
--- `price_of` meets its contract. Assumes nothing.
+-- `price_of` meets its contract.
 use mathlib.Core.Path.{_≡_, sym, ap, _∙_}
 use native.Mathlib.Omega.{arith}
 use lib.IntN.{pos}

@@ -1,4 +1,4 @@
--- `report` meets its contract. Assumes nothing.
+-- `report` meets its contract.
 use mathlib.Core.Path.{_≡_, sym, ap, _∙_}
 use borrow.Author.Needs.{needs}
 use Rattle.report.specs.Report.{reported, left}

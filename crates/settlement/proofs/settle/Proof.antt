@@ -1,9 +1,9 @@
--- `settle` meets its contract, at every two byte strings. Assumes nothing.
+-- `settle` meets its contract, at every two byte strings.
 use mathlib.Core.Path.{_≡_, refl, sym, ap, _∙_}
 use denote.Ref.{now}
 use borrow.Author.Needs.{needs}
 use Rattle.sheet.specs.Sheet.{readSheet, contentOf}
-use Rattle.settlement.specs.Settled.{bySheet, settled}
+use Rattle.settlement.proofs.Read.{byOutcome, settled-is}
 use Rattle.settlement.proofs.Promised.{promised}
 use Rattle.settlement.proofs.settle.Statement.{statement}
 use Rattle.settlement.proofs.settle.Tie as tie
@@ -24,16 +24,14 @@ settle-sheet-requires : tie.Need-settle-sheet-requires
 settle-sheet-requires c κs = sym (c .before .before .before .read .ensures) ∙ c .before .l .given .1
 
 returns : tie.Need-returns
-unfolding settled bySheet
 returns c =
     let r = c .before .before in
-    promised _ _ _ (c .refused .ensures ∙ sym (ap (bySheet _ _) (sym (r .before .before .read .ensures) ∙ r .row .given .1)))
+    promised _ _ _ (c .refused .ensures ∙ sym (settled-is _ _ ∙ ap (byOutcome _ _) (sym (r .before .before .read .ensures) ∙ r .row .given .1)))
 
 returns-2 : tie.Need-returns-2
-unfolding settled bySheet
 returns-2 c =
     let l = c .before .before in
-    promised _ _ _ (c .settle-sheet .ensures ∙ sym (ap (bySheet _ _) (sym (l .before .before .read .ensures) ∙ l .l .given .1)))
+    promised _ _ _ (c .settle-sheet .ensures ∙ sym (settled-is _ _ ∙ ap (byOutcome _ _) (sym (l .before .before .read .ensures) ∙ l .l .given .1)))
 
 pub settle-spec : {M : Type 1} → statement M
 settle-spec =

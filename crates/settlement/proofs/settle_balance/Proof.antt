@@ -1,11 +1,11 @@
--- `settle_balance` meets its contract. Assumes nothing.
+-- `settle_balance` meets its contract.
 use mathlib.Core.Path.{_≡_, refl, sym, ap, _∙_}
 use denote.Ref.{now}
 use mir.Facts.{toZ-ofZ}
 use borrow.Author.Needs.{needs}
 use Rattle.sheet.specs.Sheet.{contentOf}
 use Rattle.sheet.proofs.Accepted.{valid, counts}
-use Rattle.balance.specs.Ledger.{bookings}
+use Rattle.balance.specs.inner.Ledger.{bookings}
 use Rattle.balance.proofs.Rows.{zone-loads}
 use Rattle.settlement.proofs.Stages.{balance-refused, balance-passed}
 use Rattle.settlement.proofs.settle_balance.Statement.{statement}

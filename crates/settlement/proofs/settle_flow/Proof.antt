@@ -1,4 +1,4 @@
--- `settle_flow` meets its contract. Assumes nothing.
+-- `settle_flow` meets its contract.
 use mathlib.Core.Path.{_≡_, refl, sym, ap, _∙_}
 use denote.Ref.{now}
 use mir.Facts.{toZ-ofZ}
@@ -8,9 +8,8 @@ use borrow.Author.Needs.{needs}
 use Rattle.records.specs.Content.{head}
 use Rattle.sheet.specs.Sheet.{contentOf}
 use Rattle.sheet.proofs.Accepted.{valid}
-use Rattle.figures.specs.Flow.{marketFlow}
-use Rattle.flow.specs.Flow.{rowOf}
-use Rattle.payment.specs.Payment.{paymentOf, Payable}
+use Rattle.figures.specs.Flow.{marketFlow, flowRow}
+use Rattle.payment.specs.inner.Payment.{paymentOf, Payable}
 use Rattle.settlement.specs.Settled.{afterBalance}
 use Rattle.settlement.proofs.Stages.{flow-refused, flow-passed, figures-are, payable}
 use Rattle.settlement.proofs.settle_flow.Statement.{statement}
@@ -36,7 +35,7 @@ market-fits : (c : tie.After-flow-of) → SFits w64 (c .flow-of .result .market)
 market-fits c = search needs
 
 -- row 22 is not met
-passed : (c : tie.Else1) → rowOf (marketFlow (contentOf (now (c .before .before .before .before .args .s)))) ≡ 0
+passed : (c : tie.Else1) → flowRow (marketFlow (contentOf (now (c .before .before .before .before .args .s)))) ≡ 0
 passed c = rw (c .before .before .flow-of .ensures) at (c .if1 .left)
 
 pay-requires : tie.Need-pay-requires

@@ -1,4 +1,4 @@
--- `settle_sheet` meets its contract. Assumes nothing.
+-- `settle_sheet` meets its contract.
 use mathlib.Core.Path.{_≡_, refl, sym, ap, _∙_}
 use denote.Ref.{now}
 use mir.Facts.{toZ-ofZ}

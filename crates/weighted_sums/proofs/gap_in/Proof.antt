@@ -1,4 +1,4 @@
--- `gap_in` meets its contract. Assumes nothing.
+-- `gap_in` meets its contract.
 use native.Mathlib.Nat.{le-refl}
 use borrow.Author.Tests.{eq-eqb, ne-eqb}
 use lib.Dec.{lit<}
@@ -6,7 +6,7 @@ use lib.IntN.{ℤ, pos, _-ℤ_, _*ℤ_}
 use mir.Val.{toZ}
 use mir.Syntax.{w64}
 use Rattle.integers.proofs.Machine.{Op, rd, num, num-u, sub, mul}
-use Rattle.weighted_sums.specs.Weighted.{gapIn}
+use Rattle.weighted_sums.specs.inner.Weighted.{gapIn}
 use Rattle.weighted_sums.proofs.gap_in.Statement.{statement}
 use Rattle.weighted_sums.proofs.gap_in.Tie as tie
 

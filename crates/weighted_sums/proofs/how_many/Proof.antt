@@ -1,4 +1,4 @@
--- `how_many` meets its contract. Assumes nothing.
+-- `how_many` meets its contract.
 use borrow.Author.Tests.{eq-eqb, ne-eqb}
 use Rattle.due_factors.specs.Due.{howMany}
 use Rattle.weighted_sums.proofs.how_many.Statement.{statement}

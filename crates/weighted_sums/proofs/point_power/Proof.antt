@@ -1,4 +1,4 @@
--- `point_power` meets its contract. Assumes nothing.
+-- `point_power` meets its contract.
 use Prim.Native.Nat.{ℕ, _≤_, _<_}
 use mathlib.Core.Path.{_≡_, _∙_}
 use mathlib.Core.List.{List}
@@ -17,7 +17,7 @@ use Rattle.records.specs.Valid.{PointFits}
 use Rattle.sheet.specs.declared.Outcome.the-variants.{Accepted}
 use Rattle.sheet.specs.Sheet.{readSheet, contentOf}
 use Rattle.sheet.proofs.Accepted.{valid, counts}
-use Rattle.weighted_sums.specs.Weighted.{gapIn, powerOf}
+use Rattle.weighted_sums.specs.inner.Weighted.{gapIn, powerOf}
 use Rattle.weighted_sums.proofs.point_power.Statement.{statement}
 use Rattle.weighted_sums.proofs.point_power.Tie as tie
 

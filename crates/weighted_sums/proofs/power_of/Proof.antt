@@ -1,4 +1,4 @@
--- `power_of` meets its contract. Assumes nothing.
+-- `power_of` meets its contract.
 use mathlib.Core.Path.{sym, ap, _∙_}
 use native.Mathlib.Omega.{arith}
 use borrow.Author.Tests.{eq-eqb, ne-eqb}
@@ -7,7 +7,7 @@ use denote.Ref.{now}
 use Rattle.due_factors.specs.Due.{howMany}
 use Rattle.sheet.specs.Sheet.{contentOf}
 use Rattle.sheet.proofs.Accepted.{valid, counts}
-use Rattle.weighted_sums.specs.Weighted.{powerOf}
+use Rattle.weighted_sums.specs.inner.Weighted.{powerOf}
 use Rattle.weighted_sums.proofs.power_of.Statement.{statement}
 use Rattle.weighted_sums.proofs.power_of.Tie as tie
 

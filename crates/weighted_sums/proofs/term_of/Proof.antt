@@ -1,4 +1,4 @@
--- `term_of` meets its contract. Assumes nothing.
+-- `term_of` meets its contract.
 use borrow.Author.Needs.{needs}
 use Rattle.weighted_sums.proofs.Laws.{term}
 use Rattle.weighted_sums.proofs.term_of.Statement.{statement}

@@ -1,4 +1,4 @@
--- `unit_power` meets its contract. Assumes nothing.
+-- `unit_power` meets its contract.
 use Prim.Native.Nat.{ℕ, _<_}
 use mathlib.Core.Path.{_≡_}
 use mathlib.Core.List.{List}
@@ -14,7 +14,7 @@ use Rattle.sheet.specs.declared.Outcome.the-variants.{Accepted}
 use Rattle.sheet.specs.Sheet.{readSheet, contentOf}
 use Rattle.sheet.proofs.Accepted.{valid, counts}
 use Rattle.figures.specs.Balance.{output}
-use Rattle.weighted_sums.specs.Weighted.{powerOf}
+use Rattle.weighted_sums.specs.inner.Weighted.{powerOf}
 use Rattle.weighted_sums.proofs.unit_power.Statement.{statement}
 use Rattle.weighted_sums.proofs.unit_power.Tie as tie
 

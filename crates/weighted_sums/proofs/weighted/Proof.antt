@@ -1,4 +1,4 @@
--- `weighted` meets its contract. Assumes nothing.
+-- `weighted` meets its contract.
 use Prim.Native.Nat.{_≤_, _+_, _*_, _-_}
 use mathlib.Core.Path.{_≡_, sym, ap, _∙_}
 use native.Mathlib.Omega.{arith}
@@ -11,7 +11,7 @@ use Rattle.integers.specs.Sum.{sumTo}
 use Rattle.integers.proofs.Machine.{Op, rd}
 use Rattle.integers.proofs.Sums.{sum-zero, next}
 use Rattle.sheet.specs.Sheet.{contentOf}
-use Rattle.weighted_sums.specs.Weighted.{weightedTerm, weightedSum}
+use Rattle.weighted_sums.specs.inner.Weighted.{weightedTerm, weightedSum}
 use Rattle.weighted_sums.proofs.Laws.{members-are, members-most, asked, term-within}
 use Rattle.weighted_sums.proofs.weighted.Statement.{statement}
 use Rattle.weighted_sums.proofs.weighted.Tie as tie

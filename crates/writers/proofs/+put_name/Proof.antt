@@ -1,4 +1,4 @@
--- `put_name` writes the first byte's digits and then those of the rest. The measure is the name's length. Assumes nothing.
+-- `put_name` writes the first byte's digits and then those of the rest. The measure is the name's length.
 use Prim.Native.Nat.{ℕ, _<_}
 use native.Mathlib.Omega.{arith}
 use borrow.Author.Needs.{needs}

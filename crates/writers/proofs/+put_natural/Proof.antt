@@ -1,4 +1,4 @@
--- `put_natural` writes all digits but the last, and then the last. The measure is the number. Assumes nothing.
+-- `put_natural` writes all digits but the last, and then the last. The measure is the number.
 use Prim.Native.Nat.{ℕ, _<_}
 use native.Mathlib.Omega.{arith}
 use borrow.Author.Needs.{needs}

@@ -1,4 +1,4 @@
--- `digit` reads its table. Assumes nothing.
+-- `digit` reads its table.
 use mathlib.Core.Path.{refl}
 use borrow.Author.Needs.{needs}
 use Rattle.writers.specs.Text.{ascii}

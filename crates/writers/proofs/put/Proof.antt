@@ -1,4 +1,4 @@
--- `put` copies all of its bytes. Assumes nothing.
+-- `put` copies all of its bytes.
 use borrow.Author.Needs.{needs}
 use Rattle.writers.proofs.Writing.{copied}
 use Rattle.writers.proofs.put.Statement.{statement}

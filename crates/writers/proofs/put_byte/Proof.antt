@@ -1,4 +1,4 @@
--- `put_byte` stores the two digits one behind the other. Assumes nothing.
+-- `put_byte` stores the two digits one behind the other.
 use native.Mathlib.Omega.{arith}
 use borrow.Author.Needs.{needs}
 use Rattle.writers.proofs.Writing.{none, byte}

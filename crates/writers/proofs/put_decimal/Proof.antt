@@ -1,4 +1,4 @@
--- `put_decimal` writes the magnitude's digits, behind a minus where the number is negative. Assumes nothing.
+-- `put_decimal` writes the magnitude's digits, behind a minus where the number is negative.
 use mathlib.Core.Path.{_≡_, ap, _∙_}
 use Prim.Native.Nat.{_≤_}
 use native.Mathlib.Omega.{arith}

@@ -1,4 +1,4 @@
--- `put_amount` writes its three lines. Assumes nothing.
+-- `put_amount` writes its three lines.
 use native.Mathlib.Omega.{arith}
 use borrow.Author.Needs.{needs}
 use Rattle.writers.specs.Text.{ascii}

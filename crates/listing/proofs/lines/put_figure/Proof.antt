@@ -1,4 +1,4 @@
--- `put_figure` writes the label and then the number. Assumes nothing.
+-- `put_figure` writes the label and then the number.
 use native.Mathlib.Omega.{arith}
 use borrow.Author.Needs.{needs}
 use Rattle.writers.proofs.Signs.{decimal-as-is}

@@ -1,4 +1,4 @@
--- `put_flowgate` writes the label, the name and the line feed. Assumes nothing.
+-- `put_flowgate` writes the label, the name and the line feed.
 use native.Mathlib.Omega.{arith}
 use borrow.Author.Needs.{needs}
 use Rattle.writers.specs.Text.{ascii}

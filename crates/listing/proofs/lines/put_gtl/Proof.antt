@@ -1,4 +1,4 @@
--- `put_gtl` writes its three figures on one line. Assumes nothing.
+-- `put_gtl` writes its three figures on one line.
 use native.Mathlib.Omega.{arith}
 use borrow.Author.Needs.{needs}
 use Rattle.writers.specs.Text.{ascii}

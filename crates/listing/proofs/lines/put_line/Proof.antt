@@ -1,4 +1,4 @@
--- `put_line` writes the figure and then the line feed. Assumes nothing.
+-- `put_line` writes the figure and then the line feed.
 use native.Mathlib.Omega.{arith}
 use borrow.Author.Needs.{needs}
 use Rattle.writers.specs.Text.{ascii}

@@ -1,4 +1,4 @@
--- `put_listing` writes the listing's parts one behind the other. Assumes nothing.
+-- `put_listing` writes the listing's parts one behind the other.
 use native.Mathlib.Omega.{arith}
 use borrow.Author.Needs.{needs}
 use Rattle.writers.proofs.Writing.{next}

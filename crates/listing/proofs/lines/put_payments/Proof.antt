@@ -1,4 +1,4 @@
--- `put_payments` writes its two lines. Assumes nothing.
+-- `put_payments` writes its two lines.
 use native.Mathlib.Omega.{arith}
 use borrow.Author.Needs.{needs}
 use Rattle.writers.specs.Text.{ascii}

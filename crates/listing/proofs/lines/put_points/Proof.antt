@@ -1,4 +1,4 @@
--- `put_points` writes its two lines. Assumes nothing.
+-- `put_points` writes its two lines.
 use native.Mathlib.Omega.{arith}
 use borrow.Author.Needs.{needs}
 use Rattle.writers.specs.Text.{ascii}

@@ -1,4 +1,4 @@
--- The weighted sums of steps 3 to 5 in one form: what each record of a subject brings, times its factor on a target. Assumes nothing.
+-- The weighted sums of steps 3 to 5 in one form: what each record of a subject brings, times its factor on a target.
 -- Subjects are a factor's: 1 unit, 2 zone, 3 point, 4 PAR. The class asked is a point's type or a PAR's class; units and zones have none.
 use Prim.Native.Nat.{ℕ, _+_, _≤_}
 use mathlib.Core.Path.{_≡_}
@@ -14,7 +14,7 @@ use Rattle.records.specs.Content.{Content, point, par, factorFor}
 use Rattle.sheet.specs.declared.Outcome.the-variants.{Accepted}
 use Rattle.sheet.specs.Sheet.{readSheet, contentOf}
 use Rattle.figures.specs.Balance.{zoneLoad, output}
-use Rattle.balance.specs.Ledger.{ZoneLoads}
+use Rattle.balance.specs.inner.Ledger.{ZoneLoads}
 
 -- an accepted sheet with its layout, and two arrays from which its zone loads are read
 pub record Given (s : List ℕ) (l : Layout) (plus minus : List ℕ) : Type 0 where

@@ -1,4 +1,4 @@
--- A statement put together from its flow and its payment. Assumes nothing.
+-- A statement put together from its flow and its payment.
 use Rattle.records.specs.declared.Head.{Head}
 use Rattle.flow.specs.declared.Flow.{Flow}
 use Rattle.payment.specs.declared.Payment.{Payment}

@@ -1,4 +1,4 @@
--- A sheet's amounts, zone by zone: four ledgers, each a list of amounts that are booked at a number. Assumes nothing.
+-- A sheet's amounts, zone by zone: four ledgers, each a list of amounts that are booked at a number.
 -- Number 0 is the proxies', number n > 0 the zone's of that number.
 use Prim.Native.Nat.{ℕ, _+_, _<_, _≤_}
 use mathlib.Core.Bool.{cond}

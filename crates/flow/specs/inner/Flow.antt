@@ -1,7 +1,6 @@
--- What steps 3 to 6 are worked out from, and what they answer: row 22 or 0, and the figures of the flowgate. Assumes nothing.
+-- What steps 3 to 6 are worked out from, and what they answer: row 22 or 0, and the figures of the flowgate.
 use Prim.Native.Nat.{ℕ, _+_}
 use mathlib.Core.Path.{_≡_}
-use mathlib.Core.Bool.{cond}
 use mathlib.Core.List.{List}
 use lib.IntN.{ℤ, _+ℤ_, _*ℤ_}
 use Rattle.quotient.specs.declared.Quotient.{Quotient}
@@ -9,10 +8,10 @@ use Rattle.quotient.specs.Rounded as rounded
 use Rattle.layout.specs.declared.Layout.{Layout}
 use Rattle.records.specs.Content.{Content}
 use Rattle.sheet.specs.Sheet.{contentOf}
-use Rattle.figures.specs.Flow.{common, parFactor, generationToLoad, firstRemainder, secondRemainder, parallel, shadow, redirect, nonCommonRedirect, marketFlow, flowOutside}
+use Rattle.figures.specs.Flow.{common, parFactor, generationToLoad, firstRemainder, secondRemainder, parallel, shadow, redirect, nonCommonRedirect, marketFlow, flowRow}
 use Rattle.balance.specs.declared.Balance.{Balance}
-use Rattle.balance.specs.Balance.{balanceOf}
-use Rattle.weighted_sums.specs.Weighted.{Given}
+use Rattle.balance.specs.inner.Balance.{balanceOf}
+use Rattle.weighted_sums.specs.inner.Weighted.{Given}
 use Rattle.flow.specs.declared.GenerationToLoad.{GenerationToLoad}
 use Rattle.flow.specs.declared.Flow.{Flow}
 
@@ -34,13 +33,9 @@ gtlOf c target = record { flow = generationToLoad c target; «first_remainder» 
 abbrev pub parShare : Content → ℕ → ℤ
 parShare c i = parFactor c i *ℤ (generationToLoad c (i + 1) +ℤ parallel c (i + 1))
 
--- refusal 22 on the flow that is paid on, or 0
-unfoldable pub rowOf : ℤ → ℕ
-rowOf flow = cond (flowOutside flow) 22 0
-
 abbrev pub flowOf : Content → Flow
 flowOf c = record {
-  row = rowOf (marketFlow c);
+  row = flowRow (marketFlow c);
   gtl = generationToLoad c 0;
   «first_remainder» = firstRemainder c 0;
   «second_remainder» = secondRemainder c 0;

@@ -1,4 +1,4 @@
--- What the balance answers: the first row of 16 to 21 that is met, or 0, and the figures that the flow goes on with. Assumes nothing.
+-- What the balance answers: the first row of 16 to 21 that is met, or 0, and the figures that the flow goes on with.
 use Prim.Native.Nat.{ℕ}
 use mathlib.Core.Bool.{Bool, not, _||_, cond}
 use mathlib.Core.List.{List}
@@ -10,7 +10,7 @@ use Rattle.records.specs.Content.{Content}
 use Rattle.figures.specs.Balance.{atLeastZero, isZero, balanceRow, grossOutput, netLoad, netGeneration, finalGeneration}
 use Rattle.balance.specs.declared.Side.{Side}
 use Rattle.balance.specs.declared.Balance.{Balance}
-use Rattle.balance.specs.Ledger.{netAt}
+use Rattle.balance.specs.inner.Ledger.{netAt}
 
 -- one side, from two arrays of sums by zone
 unfoldable pub sideOf : List ℕ → List ℕ → ℕ → Side

@@ -1,0 +1,88 @@
+-- How large the figures of an accepted statement are at most, and that its flowgate's name has 16 bytes.
+use Prim.Native.Nat.{ℕ, _≤_}
+use native.Mathlib.Decide.{ℕ-discrete}
+use native.Mathlib.Omega.{arith}
+use mathlib.Core.Path.{_≡_, refl}
+use mathlib.Core.Bool.{Bool, true, false, cond}
+use mathlib.Core.List.{List}
+use lib.IntN.{ℤ, pos, natAbs, negℤ}
+use lib.ListN.{length}
+use lib.Signed.{_≤ℤ_}
+use Rattle.records.specs.Content.{Content, head}
+use Rattle.records.specs.Valid.{Valid}
+use Rattle.entitlements.specs.declared.Entitlement.the-variants as found
+use Rattle.entitlements.specs.Entitlements.{row14, entriesOf, lookUp, entitlement}
+use Rattle.entitlements.proofs.Answers.{within}
+use Rattle.entitlements.proofs.Walk.{look-other-length}
+use Rattle.figures.specs.Balance.{balanceRow}
+use Rattle.figures.specs.Flow.{common, marketFlow, flowRow}
+use Rattle.figures.specs.Payment.{inWatts, difference, amount}
+use Rattle.figures.proofs.Ranges.{parallel-within, shadow-within}
+use Rattle.figures.proofs.Bounds.{first-remainder-small, generation-to-load-small, second-remainder-small, redirect-small, non-common-redirect-small}
+use Rattle.figures.proofs.Payments.{price-within, price-least, flow-within, in-watts-within, amount-within, payments-opposite, payment-within}
+use Rattle.statement.specs.declared.Statement.{Statement}
+use Rattle.settlement.specs.Settled.{figuresAt, flowgate, settled}
+use Rattle.settlement.proofs.Promised.{holds-valid, NoRowMet, no-row-met}
+
+-- a price is not negative, and PJM's payment is the negative of NYISO's
+pub record Bounded (s : Statement) : Type 0 where
+  pub name : length (s .name) ≡ 16
+  pub gtl : natAbs (s .gtl) ≤ 400000000000
+  pub first-remainder : natAbs (s .«first_remainder») ≤ 2000000
+  pub second-remainder : natAbs (s .«second_remainder») ≤ 2000000
+  pub parallel : natAbs (s .parallel) ≤ 640000000000
+  pub shadow : natAbs (s .shadow) ≤ 640000000000
+  pub common : natAbs (s .common) ≤ 8640000000000
+  pub noncommon : natAbs (s .noncommon) ≤ 8640000000000
+  pub market : natAbs (s .market) ≤ 10000000000
+  pub entitlement : natAbs (s .entitlement) ≤ 10000000000
+  pub price : natAbs (s .price) ≤ 400000
+  pub price-least : pos 0 ≤ℤ s .price
+  pub amount : natAbs (s .amount) ≤ 2000000000000
+  pub nyiso : natAbs (s .nyiso) ≤ 2000000000000
+  pub pjm : s .pjm ≡ negℤ (s .nyiso)
+
+-- every entry's name has 16 bytes, and so has one that is found
+found-sized : (list name : List ℕ) (e : ℤ) → entitlement list name ≡ found.Found e → length name ≡ 16
+unfolding entitlement
+found-sized list name e q = by (ℕ-discrete (length name) 16)
+  where
+    go : (b : Bool) → row14 list ≡ b → cond b (found.Refused 14) (lookUp (entriesOf list) name) ≡ found.Found e → (length name ≡ 16 → ⊥) → ⊥
+    go true r q n = let z : _≡_ {A = ℕ} 0 1 = cc in omega arith
+    go false r q n = let z : _≡_ {A = ℕ} 0 1 = cc (look-other-length list name r n) in omega arith
+
+    by : Dec (length name ≡ 16) → length name ≡ 16
+    by (yes h) = h
+    by (no h) = absurd (go (row14 list) refl q h)
+
+figures-bounded : (c : Content) (e : ℤ) → Valid c → balanceRow c ≡ 0 → flowRow (marketFlow c) ≡ 0 → natAbs e ≤ 100000 → length (flowgate c) ≡ 16 → Bounded (figuresAt c e)
+unfolding figuresAt
+figures-bounded c e v b f h n =
+    let k : 0 ≤ length (c .pars) = omega arith in
+    let a = amount-within c e f h v in
+    record {
+      name = n;
+      gtl = generation-to-load-small v b k;
+      first-remainder = first-remainder-small v b k;
+      second-remainder = second-remainder-small v b k;
+      parallel = parallel-within v k;
+      shadow = shadow-within v k;
+      common = redirect-small v b common;
+      noncommon = non-common-redirect-small v b;
+      market = flow-within (marketFlow c) f;
+      entitlement = in-watts-within e h;
+      price = price-within (v .head-fits) (difference c e);
+      price-least = price-least (head c) (difference c e);
+      amount = a;
+      nyiso = payment-within (head c) (amount c e) 1 a;
+      pjm = payments-opposite (v .head-fits) (amount c e);
+    }
+
+pub bounded : (sheet list : List ℕ) → settled sheet list .refusal ≡ 0 → Bounded (settled sheet list)
+bounded sheet list z =
+    let n = no-row-met sheet list z in
+    let c = n .0 in
+    let e = n .1 in
+    let m = n .2 in
+    rw (m .figures)
+    (figures-bounded c e (holds-valid sheet c (m .read)) (m .balanced) (m .inside) (within list (flowgate c) e (m .entitled)) (found-sized list (flowgate c) e (m .entitled)))
