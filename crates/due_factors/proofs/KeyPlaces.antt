@@ -1,6 +1,6 @@
 -- The first place of what is due where a factor stands.
 use Prim.Native.Nat.{ℕ, zero, suc, _+_, _*_, _-_, _<_}
-use mathlib.Core.Path.{_≡_, refl, sym, ap, _∙_}
+use mathlib.Core.Path.{_≡_, refl, sym, _∙_}
 use mathlib.Core.Bool.{Bool, true, false, _&&_}
 use mathlib.Core.List.{List, [], _∷_}
 use native.Mathlib.Omega.{arith}

@@ -1,15 +1,14 @@
 -- Which factor stands at a place of what is due, and at which place a factor stands: each follows from the other, so none is due twice.
 use Prim.Native.Nat.{ℕ, zero, suc, _+_, _-_, _≤_, _<_}
 use mathlib.Core.Path.{_≡_, refl, sym, ap, _∙_}
-use native.Mathlib.Nat.{suc-ne-zero, add-assoc}
+use native.Mathlib.Nat.{suc-ne-zero}
 use native.Mathlib.Omega.{arith}
 use lib.ListN.{length, getD}
-use borrow.Author.Tests.{ne-eqb}
 use Rattle.fields.proofs.Laws.{below-or}
 use Rattle.due_factors.specs.declared.Counts.{Counts}
 use Rattle.due_factors.specs.declared.Due.{Due}
 use Rattle.due_factors.specs.Due.{key, dueList, noDue, howMany, Asked}
-use Rattle.due_factors.specs.inner.Places.{every, parsOn, own, offset, start, standing}
+use Rattle.due_factors.specs.inner.Places.{every, parsOn, offset, start, standing}
 use Rattle.due_factors.proofs.DueList.{whole, in-units, in-zones, in-points, in-pars}
 use Rattle.due_factors.proofs.ByTarget.{stands, due-own, below-own, due-standing}
 

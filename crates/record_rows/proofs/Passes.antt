@@ -1,41 +1,37 @@
 -- What follows for a record's fields where none of its rows fits.
-use Prim.Native.Nat.{ℕ, suc, _≤_, _<_}
+use Prim.Native.Nat.{ℕ, _≤_, _<_}
 use mathlib.Core.Path.{_≡_, refl}
-use mathlib.Core.Bool.{Bool, true, false, _||_}
+use mathlib.Core.Bool.{Bool, true, false, not, _||_}
 use mathlib.Core.List.{List}
-use native.Mathlib.Nat.{suc-ne-zero}
 use native.Mathlib.Omega.{arith}
-use lib.Dec.{leb, ltb}
+use lib.Dec.{eqb, leb, ltb}
 use lib.IntN.{natAbs}
 use lib.ListN.{length, getD}
-use borrow.Author.Tests.{ltb-false, leb-false, not-false}
-use Rattle.names.specs.Names.{nameOk}
+use borrow.Author.Tests.{ltb-false, leb-false, eqb-true, not-false}
+use Rattle.rows.specs.Rows.{row, outside, beyond}
+use Rattle.rows.proofs.NoneMet.{row-pass, neither, within}
+use Rattle.names.specs.Names.{nameOk, badName}
 use Rattle.due_factors.specs.declared.Due.{Due}
 use Rattle.due_factors.specs.Due.{noDue}
 use Rattle.records.specs.declared.Head.{Head}
 use Rattle.records.specs.declared.Zone.{Zone}
 use Rattle.records.specs.declared.Unit.{Unit}
 use Rattle.records.specs.declared.Place.{Place}
 use Rattle.records.specs.declared.Place.the-variants.{Proxy, Line}
 use Rattle.records.specs.declared.Point.{Point}
 use Rattle.records.specs.declared.Par.{Par}
 use Rattle.records.specs.declared.Factor.{Factor}
 use Rattle.records.specs.Content.{bears}
-use Rattle.records.specs.Valid.{HeadFits, ZoneFits, UnitFits, LineFits, PointFits, ParFits}
-use Rattle.records.specs.Rows.{row, outside, beyond, badName, unlisted, noZoneOf, placeUnknown, headOutside, zoneOutside, unitOutside, pointOutside, parOutside, notDue, factorOutside, headRow, zoneRow, unitRow, pointRow, parRow, factorRow}
+use Rattle.record_rows.specs.inner.Valid.{HeadFits, ZoneFits, UnitFits, LineFits, PointFits, ParFits}
+use Rattle.record_rows.specs.Rows.{noRto, noType, noZoneOf, placeUnknown, headOutside, zoneOutside, unitOutside, pointOutside, parOutside, notDue, factorOutside, headRow, zoneRow, unitRow, pointRow, parRow, factorRow}
 
-pub row-pass : (n : ℕ) (met : Bool) (below : ℕ) → row (suc n) met below ≡ 0 → (met ≡ false) × (below ≡ 0)
-row-pass n true m e = absurd (suc-ne-zero n e)
-row-pass n false m e = (refl, e)
-
-pub neither : (a b : Bool) → (a || b) ≡ false → (a ≡ false) × (b ≡ false)
-neither true b e = let z : _≡_ {A = ℕ} 0 1 = cc in absurd (omega arith)
-neither false b e = (refl, e)
-
-within : (low n high : ℕ) → outside low n high ≡ false → (low ≤ n) × (n ≤ high)
-within low n high e =
-    let x = neither (ltb n low) (ltb high n) e in
-    (ltb-false _ _ (x .0), ltb-false _ _ (x .1))
+-- one of two codes
+listed : (x a b low high : ℕ) → not (eqb x a || eqb x b) ≡ false → low ≤ a → a ≤ high → low ≤ b → b ≤ high → (low ≤ x) × (x ≤ high)
+listed x a b low high e = by-test (eqb x a) refl
+  where
+    by-test : (t : Bool) → eqb x a ≡ t → low ≤ a → a ≤ high → low ≤ b → b ≤ high → (low ≤ x) × (x ≤ high)
+    by-test true q g h g' h' = let z : x ≡ a = eqb-true x a q in (omega arith, omega arith)
+    by-test false q g h g' h' = let z : x ≡ b = eqb-true x b (rw q at (not-false (eqb x a || eqb x b) e)) in (omega arith, omega arith)
 
 -- a record with a name, for which `repeated` is row 7, and what its fields fit
 pub record Passes (name : List ℕ) (repeated : Bool) (Fits : Type 0) : Type 0 where
@@ -54,9 +50,9 @@ unfolding headRow
 head-pass h e =
     named (h .name) false _ e
     (λ e.
-    let a = row-pass 7 (unlisted (h .«monitoring_rto»)) _ e in
+    let a = row-pass 7 (noRto (h .«monitoring_rto»)) _ e in
     let b = row-pass 8 (headOutside h) 0 (a .1) in
-    let r = within 1 (h .«monitoring_rto») 2 (a .0) in
+    let r = listed (h .«monitoring_rto») 1 2 1 2 (a .0) (omega arith) (omega arith) (omega arith) (omega arith) in
     let x = neither (outside 1 (h .seconds) 900) _ (b .0) in
     let s = within 1 (h .seconds) 900 (x .0) in
     let p = neither (ltb 400000 (h .«monitoring_price»)) (ltb 400000 (h .«nonmonitoring_price»)) (x .1) in
@@ -100,10 +96,10 @@ unfolding pointRow
 point-pass zones r p e =
     named (p .name) r _ e
     (λ e.
-    let a = row-pass 7 (unlisted (p .sort) || placeUnknown zones (p .place)) _ e in
+    let a = row-pass 7 (noType (p .sort) || placeUnknown zones (p .place)) _ e in
     let b = row-pass 8 (pointOutside p) 0 (a .1) in
-    let x = neither (unlisted (p .sort)) (placeUnknown zones (p .place)) (a .0) in
-    let s = within 1 (p .sort) 2 (x .0) in
+    let x = neither (noType (p .sort)) (placeUnknown zones (p .place)) (a .0) in
+    let s = listed (p .sort) 1 2 1 2 (x .0) (omega arith) (omega arith) (omega arith) (omega arith) in
     let y = neither (ltb 200000 (p .import)) (ltb 200000 (p .export)) (b .0) in
     record {
       sort-least = s .0;
@@ -118,9 +114,9 @@ unfolding parRow
 par-pass r p e =
     named (p .name) r _ e
     (λ e.
-    let a = row-pass 7 (unlisted (p .class)) _ e in
+    let a = row-pass 7 (noType (p .class)) _ e in
     let b = row-pass 8 (parOutside p) 0 (a .1) in
-    let k = within 1 (p .class) 2 (a .0) in
+    let k = listed (p .class) 1 2 1 2 (a .0) (omega arith) (omega arith) (omega arith) (omega arith) in
     let x = neither (beyond 200000 (p .actual)) (beyond 200000 (p .target)) (b .0) in
     record { class-least = k .0; class-most = k .1; actual = ltb-false _ _ (x .0); target = ltb-false _ _ (x .1) })
 

@@ -22,7 +22,7 @@ pub fn body_length(kind: u8) -> usize
         3 => 21,
         4 => 26,
         5 => 25,
-        6 => 6,
+        6 => super::FACTOR_BODY,
         _ => 0,
     }
 }

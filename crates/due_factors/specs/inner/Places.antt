@@ -1,10 +1,9 @@
 -- Where the factors that are due stand in their list.
-use Prim.Native.Nat.{ℕ, zero, suc, _+_, _*_, _-_, _/_, _%_, _≤_, _<_}
-use mathlib.Core.Path.{_≡_}
+use Prim.Native.Nat.{ℕ, suc, _+_, _*_, _-_, _/_, _%_, _≤_}
 use mathlib.Core.Bool.{Bool, _&&_, cond}
 use mathlib.Core.List.{List, [], _∷_}
 use lib.Dec.{eqb, ltb}
-use lib.ListN.{length, getD, drop}
+use lib.ListN.{getD, drop}
 use Rattle.records.specs.Codes.{unitSubject, zoneSubject, pointSubject}
 use Rattle.records.specs.Table.{zoneKind, unitKind, pointKind, parKind}
 use Rattle.due_factors.specs.declared.Counts.{Counts}

@@ -4,7 +4,7 @@ use native.Mathlib.Omega.{arith}
 use borrow.Author.Needs.{needs}
 use borrow.Author.Tests.{ne-eqb}
 use mathlib.Core.Path.{refl}
-use Rattle.layout.specs.Layout.{counted}
+use Rattle.layout.specs.inner.Places.{counted}
 use Rattle.layout.proofs.Places.{extent-is}
 use Rattle.layout.proofs.counted.Statement.{statement}
 use Rattle.layout.proofs.counted.Tie as tie

@@ -1,8 +1,8 @@
 -- `bears` meets its contract.
 use borrow.Author.Needs.{needs}
 use Rattle.records.specs.Content.{bears}
-use Rattle.records.proofs.rows.bears.Statement.{statement}
-use Rattle.records.proofs.rows.bears.Tie as tie
+use Rattle.record_rows.proofs.bears.Statement.{statement}
+use Rattle.record_rows.proofs.bears.Tie as tie
 
 cast-result : tie.Need-cast-result
 cast-result c = search needs

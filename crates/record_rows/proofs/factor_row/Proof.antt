@@ -3,9 +3,9 @@ use mir.Facts.{toZ-ofZ}
 use mir.Syntax.{w16}
 use borrow.Author.Tests.{le-leb, lt-leb}
 use borrow.Author.Needs.{needs}
-use Rattle.records.specs.Rows.{factorRow}
-use Rattle.records.proofs.rows.factor_row.Statement.{statement}
-use Rattle.records.proofs.rows.factor_row.Tie as tie
+use Rattle.record_rows.specs.Rows.{factorRow}
+use Rattle.record_rows.proofs.factor_row.Statement.{statement}
+use Rattle.record_rows.proofs.factor_row.Tie as tie
 
 due-count-requires : tie.Need-due-count-requires
 due-count-requires c κs = search needs

@@ -1,11 +1,11 @@
 -- `head_row` meets its contract.
 use borrow.Author.Needs.{needs}
-use Rattle.records.specs.Rows.{headRow}
-use Rattle.records.proofs.rows.head_row.Statement.{statement}
-use Rattle.records.proofs.rows.head_row.Tie as tie
+use Rattle.record_rows.specs.Rows.{headRow}
+use Rattle.record_rows.proofs.head_row.Statement.{statement}
+use Rattle.record_rows.proofs.head_row.Tie as tie
 
-unlisted-requires : tie.Need-unlisted-requires
-unlisted-requires c κs = search needs
+no-rto-requires : tie.Need-no-rto-requires
+no-rto-requires c κs = search needs
 
 cast-outside : tie.Need-cast-outside
 cast-outside c = search needs
@@ -27,13 +27,13 @@ unfolding headRow
 returns c =
     let n = c .before .before .before in
     let u = n .before .before .before .before in
-    rw (c .name-rows .ensures, c .before .row2 .ensures, c .before .before .row .ensures, n .outside .ensures, u .unlisted .ensures, u .before .pre)
+    rw (c .name-rows .ensures, c .before .row2 .ensures, c .before .before .row .ensures, n .outside .ensures, u .no-rto .ensures, u .before .pre)
 
 pub head-row-spec : {M : Type 1} → statement M
 head-row-spec =
     tie.close
     (tie.spec
-    unlisted-requires
+    no-rto-requires
     cast-outside
     outside-requires
     row-requires

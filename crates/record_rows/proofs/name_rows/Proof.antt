@@ -1,7 +1,7 @@
 -- `name_rows` meets its contract.
 use borrow.Author.Needs.{needs}
-use Rattle.records.proofs.rows.name_rows.Statement.{statement}
-use Rattle.records.proofs.rows.name_rows.Tie as tie
+use Rattle.record_rows.proofs.name_rows.Statement.{statement}
+use Rattle.record_rows.proofs.name_rows.Tie as tie
 
 row-requires : tie.Need-row-requires
 row-requires c κs = search needs

@@ -2,12 +2,12 @@
 use mir.Facts.{toZ-ofZ}
 use mir.Syntax.{w32}
 use borrow.Author.Needs.{needs}
-use Rattle.records.specs.Rows.{parRow}
-use Rattle.records.proofs.rows.par_row.Statement.{statement}
-use Rattle.records.proofs.rows.par_row.Tie as tie
+use Rattle.record_rows.specs.Rows.{parRow}
+use Rattle.record_rows.proofs.par_row.Statement.{statement}
+use Rattle.record_rows.proofs.par_row.Tie as tie
 
-unlisted-requires : tie.Need-unlisted-requires
-unlisted-requires c κs = search needs
+no-type-requires : tie.Need-no-type-requires
+no-type-requires c κs = search needs
 
 power-beyond-requires : tie.Need-power-beyond-requires
 power-beyond-requires c κs = search needs
@@ -33,13 +33,13 @@ returns c =
     let p = u .before .args .p in
     let actual = toZ-ofZ {w = w32} {z = p .actual} (record { sfits = a .before .struct-told .given .1 .1 .0 .1 }) in
     let target = toZ-ofZ {w = w32} {z = p .target} (record { sfits = t .before .struct-told2 .given .1 .1 .1 .0 .1 }) in
-    rw (c .name-rows .ensures, c .before .row2 .ensures, c .before .before .row .ensures, t .power-beyond2 .ensures, a .power-beyond .ensures, actual, target, u .unlisted .ensures, u .before .pre)
+    rw (c .name-rows .ensures, c .before .row2 .ensures, c .before .before .row .ensures, t .power-beyond2 .ensures, a .power-beyond .ensures, actual, target, u .no-type .ensures, u .before .pre)
 
 pub par-row-spec : {M : Type 1} → statement M
 par-row-spec =
     tie.close
     (tie.spec
-    unlisted-requires
+    no-type-requires
     power-beyond-requires
     power-beyond-requires-2
     row-requires

@@ -1,11 +1,11 @@
 -- `point_row` meets its contract.
 use borrow.Author.Needs.{needs}
-use Rattle.records.specs.Rows.{pointRow}
-use Rattle.records.proofs.rows.point_row.Statement.{statement}
-use Rattle.records.proofs.rows.point_row.Tie as tie
+use Rattle.record_rows.specs.Rows.{pointRow}
+use Rattle.record_rows.proofs.point_row.Statement.{statement}
+use Rattle.record_rows.proofs.point_row.Tie as tie
 
-unlisted-requires : tie.Need-unlisted-requires
-unlisted-requires c κs = search needs
+no-type-requires : tie.Need-no-type-requires
+no-type-requires c κs = search needs
 
 place-unknown-requires : tie.Need-place-unknown-requires
 place-unknown-requires c κs = search needs
@@ -23,13 +23,13 @@ returns : tie.Need-returns
 unfolding pointRow
 returns c =
     let p = c .before .before .before .before .before in
-    rw (c .name-rows .ensures, c .before .row2 .ensures, c .before .before .row .ensures, p .place-unknown .ensures, p .before .unlisted .ensures, p .before .before .pre)
+    rw (c .name-rows .ensures, c .before .row2 .ensures, c .before .before .row .ensures, p .place-unknown .ensures, p .before .no-type .ensures, p .before .before .pre)
 
 pub point-row-spec : {M : Type 1} → statement M
 point-row-spec =
     tie.close
     (tie.spec
-    unlisted-requires
+    no-type-requires
     place-unknown-requires
     row-requires
     row-requires-2

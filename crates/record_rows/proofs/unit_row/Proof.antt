@@ -1,8 +1,8 @@
 -- `unit_row` meets its contract.
 use borrow.Author.Needs.{needs}
-use Rattle.records.specs.Rows.{unitRow}
-use Rattle.records.proofs.rows.unit_row.Statement.{statement}
-use Rattle.records.proofs.rows.unit_row.Tie as tie
+use Rattle.record_rows.specs.Rows.{unitRow}
+use Rattle.record_rows.proofs.unit_row.Statement.{statement}
+use Rattle.record_rows.proofs.unit_row.Tie as tie
 
 no-zone-of-requires : tie.Need-no-zone-of-requires
 no-zone-of-requires c κs = search needs

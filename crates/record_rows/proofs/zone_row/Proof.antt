@@ -1,8 +1,8 @@
 -- `zone_row` meets its contract.
 use borrow.Author.Needs.{needs}
-use Rattle.records.specs.Rows.{zoneRow}
-use Rattle.records.proofs.rows.zone_row.Statement.{statement}
-use Rattle.records.proofs.rows.zone_row.Tie as tie
+use Rattle.record_rows.specs.Rows.{zoneRow}
+use Rattle.record_rows.proofs.zone_row.Statement.{statement}
+use Rattle.record_rows.proofs.zone_row.Tie as tie
 
 row-requires : tie.Need-row-requires
 row-requires c κs = search needs

@@ -5,16 +5,16 @@ use mathlib.Core.Bool.{true, false}
 use mathlib.Core.List.{List}
 use lib.IntN.{natAbs}
 use lib.ListN.{length, take, getD}
-use Rattle.names.specs.Names.{nameOk}
-use Rattle.due_factors.specs.Due.{Asked, dueList}
+use Rattle.names.specs.Names.{nameOk, seenBefore}
+use Rattle.due_factors.specs.Due.{Asked, due}
 use Rattle.records.specs.declared.Head.{Head}
 use Rattle.records.specs.declared.Zone.{Zone}
 use Rattle.records.specs.declared.Unit.{Unit}
 use Rattle.records.specs.declared.Place.the-variants.{Line}
 use Rattle.records.specs.declared.Point.{Point}
 use Rattle.records.specs.declared.Par.{Par}
+use Rattle.records.specs.Table.{headKind, zoneKind, unitKind, pointKind, parKind}
 use Rattle.records.specs.Content.{Content, noName, head, zone, unit, point, par, factorFor}
-use Rattle.records.specs.Rows.{oneOf}
 
 pub record HeadFits (h : Head) : Type 0 where
   pub rto-least : 1 ≤ h .«monitoring_rto»
@@ -52,14 +52,14 @@ pub record ParFits (p : Par) : Type 0 where
   pub target : natAbs (p .target) ≤ 200000
 
 pub record Valid (c : Content) : Type 0 where
-  pub heads : length (c .heads) ≡ 1
+  pub heads : length (c .heads) ≡ headKind .most
   pub zones-least : 1 ≤ length (c .zones)
-  pub zones-most : length (c .zones) ≤ 32
+  pub zones-most : length (c .zones) ≤ zoneKind .most
   pub units-least : 1 ≤ length (c .units)
-  pub units-most : length (c .units) ≤ 256
-  pub points-most : length (c .points) ≤ 32
-  pub pars-most : length (c .pars) ≤ 8
-  pub factors : length (c .factors) ≡ length (dueList (length (c .zones)) (length (c .units)) (length (c .points)) (length (c .pars)))
+  pub units-most : length (c .units) ≤ unitKind .most
+  pub points-most : length (c .points) ≤ pointKind .most
+  pub pars-most : length (c .pars) ≤ parKind .most
+  pub factors : length (c .factors) ≡ length (due c)
   pub head-fits : HeadFits (head c)
   pub zone-fits : (i : ℕ) → i < length (c .zones) → ZoneFits (zone c i)
   pub unit-fits : (i : ℕ) → i < length (c .units) → UnitFits (length (c .zones)) (unit c i)
@@ -71,4 +71,4 @@ pub record Valid (c : Content) : Type 0 where
 -- what rows 6 and 7 leave of a kind's names: each well formed, and none of those before it
 pub record NamesFit (names : List (List ℕ)) : Type 0 where
   pub well : (i : ℕ) → i < length names → nameOk (getD names i noName) ≡ true
-  pub new : (i : ℕ) → i < length names → oneOf (getD names i noName) (take i names) ≡ false
+  pub new : (i : ℕ) → i < length names → seenBefore (take i names) (getD names i noName) ≡ false

@@ -5,11 +5,11 @@ use native.Mathlib.Omega.{arith}
 use borrow.Author.Tests.{eqb-true, not-true}
 use denote.Ref.{now}
 use Rattle.fields.specs.Fields.{byteAt}
+use Rattle.rows.proofs.NoneMet.{both}
+use Rattle.sheet.proofs.good_factor.Statement.{statement}
 use mir.Facts.{toZ-ofZ}
 use mir.Syntax.{w16}
 use borrow.Author.Needs.{needs}
-use Rattle.sheet.proofs.Factors.{both}
-use Rattle.sheet.proofs.good_factor.Statement.{statement}
 use Rattle.sheet.proofs.good_factor.Tie as tie
 
 shared-slice-read-due : tie.Need-shared-slice-read-due

@@ -3,10 +3,11 @@ use Prim.Native.Nat.{ℕ, _+_, _-_, _≤_}
 use mathlib.Core.Path.{_≡_}
 use mathlib.Core.List.{List}
 use lib.ListN.{length}
+use Rattle.records.specs.Table.{headKind, zoneKind, unitKind, pointKind, parKind}
 use Rattle.name_index.specs.declared.Run.{Run}
 use Rattle.name_index.specs.inner.Index.{Indexed}
 use Rattle.layout.specs.declared.Layout.{Layout}
-use Rattle.layout.specs.Layout.{count, size, firstOf}
+use Rattle.layout.specs.inner.Places.{count, size, firstOf}
 
 -- how many records have a name: all but the factors
 abbrev pub named : Layout → ℕ
@@ -16,9 +17,13 @@ named l = l .heads + l .zones + l .units + l .points + l .pars
 abbrev pub mask : ℕ
 mask = 511
 
--- a place for each hash, for each of the 329 names that are allowed, and for one too many
+-- how many names a sheet may have
+abbrev pub mostNamed : ℕ
+mostNamed = headKind .most + zoneKind .most + unitKind .most + pointKind .most + parKind .most
+
+-- a place for each hash, for each name that is allowed, and for one too many
 abbrev pub tableSize : ℕ
-tableSize = 842
+tableSize = mask + 1 + mostNamed + 1
 
 -- the names of a kind's records, behind those of the kinds below
 abbrev pub runOf : Layout → ℕ → Run

@@ -8,13 +8,13 @@ use lib.ListN.{length, drop, drop-of-length-le}
 use lib.Seq.{drop-drop, drop-cons}
 use borrow.Author.Tests.{eq-eqb, ne-eqb}
 use Rattle.fields.specs.Fields.{byteAt}
-use Rattle.records.specs.Bodies.{bodyLength, bodyIn}
-use Rattle.records.specs.Content.{Content, noContent, withRecord}
-use Rattle.layout.specs.Layout.{layoutOf}
+use Rattle.records.specs.Table.{bodyLength, bodyIn}
+use Rattle.records.specs.Content.{Content, countOf, noContent, withRecord}
+use Rattle.record_rows.specs.Rows.{recordRow, lastRow, firstRow}
+use Rattle.record_rows.proofs.FrontRows.{Fronted, front-pass}
 use Rattle.sheet.specs.declared.Outcome.the-variants.{Refused}
-use Rattle.sheet.specs.Sheet.{holds, fails, unless, recordRow, endRow, firstRow, recordsFrom, reading, readSheet}
-use Rattle.sheet.specs.Passed.{Passed, none, more}
-use Rattle.sheet.proofs.Front.{Fronted, front-pass}
+use Rattle.sheet.specs.Sheet.{holds, fails, unless, recordsFrom, reading, readSheet}
+use Rattle.sheet.specs.inner.Passed.{Passed, none, more}
 
 from-skip : (at skip last : ℕ) (c : Content) (r : List ℕ) → skip ≤ length r → recordsFrom at skip last c r ≡ recordsFrom (at + skip) 0 last c (drop skip r)
 unfolding recordsFrom
@@ -29,7 +29,7 @@ module _ (s : List ℕ) (at last : ℕ) (c : Content) where
   abbrev pub contentNext : Content
   contentNext = withRecord c (byteAt s at) (bodyIn (byteAt s at) (drop (at + 1) s))
 
-  here-passes : rowHere ≡ 0 → Fronted (layoutOf c) last (byteAt s at) (length (drop (at + 1) s))
+  here-passes : rowHere ≡ 0 → Fronted last (byteAt s at) (countOf c (byteAt s at)) (length (drop (at + 1) s))
   unfolding recordRow
   here-passes q = front-pass _ _ _ _ _ q .0
 
@@ -48,7 +48,7 @@ module _ (s : List ℕ) (at last : ℕ) (c : Content) where
       ∙ rw (eq-eqb _ _ q) (from-skip (at + 1) (bodyLength k) k contentNext (drop (at + 1) s) (here-passes q .fits))
       ∙ ap (recordsFrom (at + 1 + bodyLength k) 0 k contentNext) (drop-drop (bodyLength k) (at + 1) s))
 
-  pub from-end : length s ≤ at → recordsFrom at 0 last c (drop at s) ≡ unless (endRow (layoutOf c)) at (holds c)
+  pub from-end : length s ≤ at → recordsFrom at 0 last c (drop at s) ≡ unless (lastRow c) at (holds c)
   unfolding recordsFrom
   from-end h = rw (drop-of-length-le s {i = at} h)
 

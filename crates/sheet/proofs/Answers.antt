@@ -1,4 +1,4 @@
--- Each answer of the reading says what it should of the sheet.
+-- What each answer of the reading says of the sheet.
 use Prim.Native.Nat.{ℕ, zero, suc, _+_, _-_, _≤_, _<_}
 use mathlib.Core.Path.{_≡_, refl, sym, ap, _∙_}
 use mathlib.Core.Bool.{Bool, true, false, not, cond}
@@ -10,54 +10,55 @@ use lib.ListN.{length, drop, getD, length-drop}
 use lib.Seq.{drop-drop, getD-drop}
 use borrow.Author.Tests.{lt-ltb, le-ltb, eqb-true, eqb-false}
 use Rattle.fields.specs.Fields.{byteAt}
-use Rattle.records.specs.Bodies.{bodyLength, bodyIn}
+use Rattle.rows.specs.Rows.{row}
+use Rattle.records.specs.Table.{bodyLength, bodyIn}
 use Rattle.records.specs.Content.{Content, noContent, withRecord}
-use Rattle.records.specs.Rows.{row}
+use Rattle.record_rows.specs.Rows.{firstRow, recordRow, lastRow}
 use Rattle.layout.specs.declared.Layout.{Layout}
 use Rattle.layout.specs.Layout.{layoutOf}
 use Rattle.sheet.specs.declared.Outcome.the-variants.{Accepted}
-use Rattle.sheet.specs.Sheet.{Reading, holds, fails, unless, firstRow, recordRow, endRow, recordsFrom, reading, outcome, readSheet, contentOf}
-use Rattle.sheet.specs.Passed.{Passed, none, more, rowAt, Accepts, Refuses}
-use Rattle.sheet.proofs.Reach.{reach-within}
+use Rattle.sheet.specs.Sheet.{Reading, holds, fails, unless, recordsFrom, reading, outcome, readSheet, contentOf}
+use Rattle.sheet.specs.inner.Passed.{Passed, none, more, rowAt, Accepts, Refuses}
+use Rattle.sheet.proofs.Passing.{passed-within}
 
-abbrev Told : List ℕ → Reading → Type 0
-Told s (holds c) = Accepts s c
-Told s (fails number at) = Refuses s number at
+abbrev Answers : List ℕ → Reading → Type 0
+Answers s (holds c) = Accepts s c
+Answers s (fails number at) = Refuses s number at
 
-told-unless : (s : List ℕ) (number at : ℕ) (next : Reading) → (number ≡ 0 → Told s next) → ((number ≡ 0 → ⊥) → Refuses s number at) → Told s (unless number at next)
-told-unless s n at next f g = go (eqb n 0) refl
+answers-unless : (s : List ℕ) (number at : ℕ) (next : Reading) → (number ≡ 0 → Answers s next) → ((number ≡ 0 → ⊥) → Refuses s number at) → Answers s (unless number at next)
+answers-unless s n at next f g = go (eqb n 0) refl
   where
-    go : (b : Bool) → eqb n 0 ≡ b → Told s (cond b next (fails n at))
+    go : (b : Bool) → eqb n 0 ≡ b → Answers s (cond b next (fails n at))
     go true e = f (eqb-true _ _ e)
     go false e = g (eqb-false _ _ e)
 
-told : (s rest : List ℕ) (at skip last : ℕ) (c : Content) → drop at s ≡ rest → Passed s (at + skip) last c → Told s (recordsFrom at skip last c rest)
+answers : (s rest : List ℕ) (at skip last : ℕ) (c : Content) → drop at s ≡ rest → Passed s (at + skip) last c → Answers s (recordsFrom at skip last c rest)
 unfolding recordsFrom rowAt
-told s [] at skip last c d p =
+answers s [] at skip last c d p =
     let m : length s ≤ at = omega (arith, rw (length-drop at s) at (ap length d)) in
-    let q : at + skip ≡ at = omega (arith, reach-within s p) in
-    let z : length s ≡ at = omega (arith, reach-within s p) in
-    told-unless s (endRow (layoutOf c)) at (holds c)
+    let q : at + skip ≡ at = omega (arith, passed-within s p) in
+    let z : length s ≡ at = omega (arith, passed-within s p) in
+    answers-unless s (lastRow c) at (holds c)
     (λ e. record { last = last; passed = rw z (rw q at p); end = e })
     (λ n. record { last = last; content = c; passed = rw q at p; row = rw (le-ltb at (length s) m); some = n })
-told s (b ∷ r) at (suc skip) last c d p =
+answers s (b ∷ r) at (suc skip) last c d p =
     let d2 : drop (at + 1) s ≡ r = sym (drop-drop 1 at s) ∙ ap (drop 1) d in
     let q : at + suc skip ≡ at + 1 + skip = omega arith in
-    told s r (at + 1) skip last c d2 (rw q at p)
-told s (k ∷ r) at zero last c d p =
+    answers s r (at + 1) skip last c d2 (rw q at p)
+answers s (k ∷ r) at zero last c d p =
     let d2 : drop (at + 1) s ≡ r = sym (drop-drop 1 at s) ∙ ap (drop 1) d in
     let q : at + 0 ≡ at = omega arith in
     let p2 : Passed s at last c = rw q at p in
     let below : at < length s = omega (arith, rw (length-drop at s) at (ap length d)) in
     let here : byteAt s at ≡ k = rw (getD-drop at s 0 0, q) at (ap (λ (x : List ℕ). getD x 0 0) d) in
-    told-unless s (recordRow c last k r) at _
-    (λ e. told s r (at + 1) (bodyLength k) k (withRecord c k (bodyIn k r)) d2 (rw (here, d2) at (more p2 below (rw (here, d2) e))))
+    answers-unless s (recordRow c last k r) at _
+    (λ e. answers s r (at + 1) (bodyLength k) k (withRecord c k (bodyIn k r)) d2 (rw (here, d2) at (more p2 below (rw (here, d2) e))))
     (λ n. record { last = last; content = c; passed = p2; row = rw (lt-ltb at (length s) below, here, d2); some = n })
 
 -- row 1 alone refuses before any record has passed
-pub reading-told : (s : List ℕ) → firstRow s ≡ 0 → Told s (reading s)
+pub reading-answers : (s : List ℕ) → firstRow s ≡ 0 → Answers s (reading s)
 unfolding reading
-reading-told s e = rw e (told s s 0 0 0 noContent refl none)
+reading-answers s e = rw e (answers s s 0 0 0 noContent refl none)
 
 pub first-number : (s : List ℕ) → (firstRow s ≡ 0) ⊎ (firstRow s ≡ 1)
 unfolding firstRow
@@ -82,7 +83,7 @@ by-reading : (s : List ℕ) (l : Layout) (r : Reading) → reading s ≡ r → o
 unfolding contentOf
 by-reading s l (holds c) e o f =
     let q : contentOf s ≡ c = rw e in
-    record { first = f; accepts = rw q (rw e at (reading-told s f)); layout = rw q (cc) }
+    record { first = f; accepts = rw q (rw e at (reading-answers s f)); layout = rw q (cc) }
 by-reading s l (fails n p) e o f = let z : _≡_ {A = ℕ} 0 1 = cc in absurd (omega arith)
 
 pub kept : (s : List ℕ) (l : Layout) → readSheet s ≡ Accepted l → Kept s l

@@ -6,10 +6,9 @@ use mathlib.Core.List.{List}
 use lib.Dec.{ltb}
 use lib.ListN.{length, drop}
 use Rattle.fields.specs.Fields.{byteAt}
-use Rattle.records.specs.Bodies.{bodyLength, bodyIn}
+use Rattle.records.specs.Table.{bodyLength, bodyIn}
 use Rattle.records.specs.Content.{Content, noContent, withRecord}
-use Rattle.layout.specs.Layout.{layoutOf}
-use Rattle.sheet.specs.Sheet.{recordRow, endRow}
+use Rattle.record_rows.specs.Rows.{recordRow, lastRow}
 
 -- The records before a place all pass their rows: `last` is the kind of the last of them, or 0, and c is what they hold
 pub data Passed (s : List ℕ) : ℕ → ℕ → Content → Type 0 where
@@ -19,12 +18,12 @@ pub data Passed (s : List ℕ) : ℕ → ℕ → Content → Type 0 where
 
 -- the row that the record at a place meets, or the sheet's end, or 0
 unfoldable pub rowAt : List ℕ → Content → ℕ → ℕ → ℕ
-rowAt s c last at = cond (ltb at (length s)) (recordRow c last (byteAt s at) (drop (at + 1) s)) (endRow (layoutOf c))
+rowAt s c last at = cond (ltb at (length s)) (recordRow c last (byteAt s at) (drop (at + 1) s)) (lastRow c)
 
 pub record Accepts (s : List ℕ) (c : Content) : Type 0 where
   pub last : ℕ
   pub passed : Passed s (length s) last c
-  pub end : endRow (layoutOf c) ≡ 0
+  pub end : lastRow c ≡ 0
 
 -- of rows 2 to 13
 pub record Refuses (s : List ℕ) (number at : ℕ) : Type 0 where
