@@ -17,7 +17,7 @@ use Rattle.integers.proofs.Sums.{sum-same, sum-pick, sum-abs}
 use Rattle.records.specs.declared.Place.{Place}
 use Rattle.records.specs.declared.Place.the-variants.{Proxy, Line}
 use Rattle.records.specs.Content.{Content, zone, unit, point}
-use Rattle.records.specs.Valid.{Valid, LineFits}
+use Rattle.record_rows.specs.inner.Valid.{Valid, LineFits}
 use Rattle.figures.specs.Balance.{onLine, atProxy, totalLoad, importInto, lineImports, zoneLoad, netLoad, proxyImport, proxyImports, finalLoad, output, outputIn, zoneOutput, exportFrom, lineExports, zoneGeneration, netGeneration, proxyExport, proxyExports, finalGeneration, grossOutput, grossLoad}
 use Rattle.balance.specs.inner.Ledger.{loads, outputs, imports, exports, numberOf, pointBooking, bookingOf, bookings, bookedAt, sumAt, Sums, Small, netAt}
 

@@ -9,7 +9,7 @@ use lib.Signed.{leZ}
 use Rattle.integers.specs.Sum.{sumTo, allTo}
 use Rattle.integers.proofs.Sums.{sum-same, all-same}
 use Rattle.records.specs.Content.{Content}
-use Rattle.records.specs.Valid.{Valid}
+use Rattle.record_rows.specs.inner.Valid.{Valid}
 use Rattle.figures.specs.Balance.{totalLoad, zoneLoad, netLoad, finalLoad, zoneOutput, zoneGeneration, netGeneration, finalGeneration, grossOutput, grossLoad, atLeastZero, grossAboveLimit, zoneLoadBelowZero, finalLoadNotAboveZero, zoneGenerationBelowZero, netGenerationZero, finalGenerationBelowZero, balanceRow}
 use Rattle.figures.proofs.Bounds.{gross-output-is}
 use Rattle.balance.specs.declared.Side.{Side}

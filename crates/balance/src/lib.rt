@@ -170,10 +170,10 @@ fn is_zero(x: i64) -> bool
 fn generation_row(least: bool, net: i64, last: i64) -> u8
     ensures { λ r. ⌜ r ≡ generationRow least net last ⌝ }
 {
-    records::rows::row(
+    rows::row(
         19,
         !least,
-        records::rows::row(20, is_zero(net), records::rows::row(21, last < 0, 0)),
+        rows::row(20, is_zero(net), rows::row(21, last < 0, 0)),
     )
 }
 
@@ -181,14 +181,14 @@ fn generation_row(least: bool, net: i64, last: i64) -> u8
 fn load_row(least: bool, last: i64, below: u8) -> u8
     ensures { λ r. ⌜ r ≡ loadRow least last below ⌝ }
 {
-    records::rows::row(17, !least, records::rows::row(18, last <= 0, below))
+    rows::row(17, !least, rows::row(18, last <= 0, below))
 }
 
 // Row 16, then those below.
 fn gross_row(load: i64, output: i64, below: u8) -> u8
     ensures { λ r. ⌜ r ≡ grossRow load output below ⌝ }
 {
-    records::rows::row(16, (2_000_000 < load) | (2_000_000 < output), below)
+    rows::row(16, (2_000_000 < load) | (2_000_000 < output), below)
 }
 
 // The first row that is met, downwards, or 0.

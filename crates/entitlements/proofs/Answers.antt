@@ -10,7 +10,7 @@ use lib.ListN.{length, take}
 use lib.Seq.{length-take-le, take-all}
 use Rattle.fields.proofs.Laws.{below-or}
 use Rattle.names.specs.Names.{sameList}
-use Rattle.names.proofs.Laws.{same-refl, same-true}
+use Rattle.names.proofs.SameNames.{same-refl, same-true}
 use Rattle.entitlements.specs.Entitlements.{Entry, recordLength, mostRecords, mostValue, anyFault, row14, entriesFrom, entriesOf, lookUp, entitlement}
 use Rattle.entitlements.specs.declared.Entitlement.the-variants.{Found, Refused}
 use Rattle.entitlements.proofs.Records.{either}

@@ -12,7 +12,7 @@ use lib.ListN.{length, drop, getD}
 use Rattle.fields.proofs.Laws.{below-or}
 use Rattle.names.specs.Names.{sameList, seenBefore}
 use Rattle.name_index.specs.inner.Index.{namesAt}
-use Rattle.names.proofs.Laws.{same-refl}
+use Rattle.names.proofs.SameNames.{same-refl}
 use Rattle.entitlements.specs.Entitlements.{Entry, bodyLength, recordLength, mostRecords, mostValue, entryOf, recordFault, anyFault, row14, entriesOf}
 use Rattle.entitlements.specs.inner.Steps.{firstNames}
 use Rattle.entitlements.proofs.Records.{Passes, either, or-none, passes, no-fault}

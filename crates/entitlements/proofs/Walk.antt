@@ -10,7 +10,7 @@ use lib.ListN.{length, take, drop, getD, length-drop, drop-of-length-le}
 use lib.Seq.{drop-cons, drop-drop, take-all, take-length}
 use Rattle.names.specs.Names.{nameAt, sameList}
 use Rattle.name_index.specs.inner.Index.{namesAt}
-use Rattle.names.proofs.Laws.{same-uneven}
+use Rattle.names.proofs.SameNames.{same-uneven}
 use Rattle.entitlements.specs.Entitlements.{Entry, bodyLength, recordLength, entryOf, recordFault, anyFault, row14, entriesFrom, entriesOf, lookUp}
 use Rattle.entitlements.specs.inner.Steps.{firstNames}
 use Rattle.entitlements.specs.declared.Entitlement.the-variants.{Found, Refused}

@@ -52,7 +52,7 @@ fn entry_fault(body: &[u8]) -> bool
     ensures { λ r. ⌜ r ≡ (badName (entryOf (now (body .entry)) .name) || beyond mostValue (entryOf (now (body .entry)) .value)) ⌝ }
 {
     let size = integers::magnitude(value_of(body));
-    !names::name_ok(names::name_at(body, 0)) | (MOST_VALUE < size)
+    !names::name_ok_at(body, 0) | (MOST_VALUE < size)
 }
 
 // Whether the record at `at`, behind n others, meets row 14; if it does not, the table holds its name with theirs.

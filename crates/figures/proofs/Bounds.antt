@@ -16,7 +16,7 @@ use Rattle.integers.proofs.Absolute.{abs-add, abs-sub, abs-mul}
 use Rattle.integers.proofs.Sums.{sum-same, sum-least, sum-pick, sum-swap}
 use Rattle.integers.proofs.Tactic.{zi, zo}
 use Rattle.records.specs.Content.{Content, unit, point, par}
-use Rattle.records.specs.Valid.{Valid}
+use Rattle.record_rows.specs.inner.Valid.{Valid}
 use Rattle.figures.specs.Balance.{totalLoad, importInto, lineImports, zoneLoad, netLoad, output, outputIn, zoneOutput, exportFrom, lineExports, zoneGeneration, netGeneration, finalGeneration, grossOutput, grossLoad, balanceRow}
 use Rattle.figures.specs.Flow.{common, noncommon, unitFactor, zoneFactor, parFactor, outputTerm, weightedOutput, loadTerm, weightedLoad, firstDividend, loadShare, firstRemainder, grossFlow, secondDividend, generationToLoad, secondRemainder, parallel, shadow, control, carriedTerm, carriedSum, carried, redirect, nyisoMonitors, nonCommonRedirect, marketFlow}
 use Rattle.figures.proofs.Numbers.{natural-least, less-left, size-most, size-rise, cond-within, times-within, sum-within, sum-rise, sum-term, sum-weighted, remainder-within, quotient-share}

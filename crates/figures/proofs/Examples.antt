@@ -4,7 +4,7 @@ use mathlib.Core.Path.{_≡_, refl}
 use mathlib.Core.List.{List, [], _∷_, map}
 use lib.IntN.{ℤ, pos, negsuc}
 use Rattle.integers.specs.Sum.{sumTo, allTo}
-use Rattle.quotient.specs.Rounded.{goesAway, away, step, quotient, remainder}
+use Rattle.quotient.specs.Rounded.{quotient, remainder}
 use Rattle.records.specs.declared.Head.{Head}
 use Rattle.records.specs.declared.Zone.{Zone}
 use Rattle.records.specs.declared.Unit.{Unit}
@@ -47,7 +47,7 @@ dear = headOf 2 900 400000 100000
 
 -- the numbers of the printed statement, in its order
 unfoldable pub printed : Content → ℤ → List ℤ
-unfolding sumTo goesAway away step quotient remainder bears factorFor
+unfolding sumTo quotient remainder bears factorFor
     onLine atProxy totalLoad importInto lineImports zoneLoad netLoad output outputIn zoneOutput exportFrom lineExports zoneGeneration netGeneration
     proxyExport proxyExports finalGeneration grossOutput
     unitFactor zoneFactor pointFactor parFactor outputTerm weightedOutput loadTerm weightedLoad firstDividend loadShare firstRemainder grossFlow

@@ -7,7 +7,7 @@ use lib.IntN.{natAbs}
 use lib.ListN.{length}
 use Rattle.due_factors.specs.Due.{Asked, howMany}
 use Rattle.records.specs.Content.{Content}
-use Rattle.records.specs.Valid.{Valid}
+use Rattle.record_rows.specs.inner.Valid.{Valid}
 use Rattle.figures.specs.Flow.{unitFactor, zoneFactor, pointFactor, parFactor}
 
 module _ {c : Content} (v : Valid c) where

@@ -12,7 +12,7 @@ use Rattle.integers.proofs.Parts.{lt-to}
 use Rattle.integers.proofs.Absolute.{abs-sub, abs-neg}
 use Rattle.records.specs.declared.Head.{Head}
 use Rattle.records.specs.Content.{Content, head}
-use Rattle.records.specs.Valid.{Valid, HeadFits}
+use Rattle.record_rows.specs.inner.Valid.{Valid, HeadFits}
 use Rattle.figures.specs.Flow.{marketFlow, flowRow}
 use Rattle.figures.specs.Payment.{inWatts, difference, price, amountOf, amount, payment}
 use Rattle.figures.proofs.Balanced.{not-met}

@@ -11,7 +11,7 @@ use Rattle.integers.proofs.Tactic.{zi, zo}
 use Rattle.records.specs.declared.Place.{Place}
 use Rattle.records.specs.declared.Place.the-variants.{Proxy, Line}
 use Rattle.records.specs.Content.{Content, zone, unit, point, par}
-use Rattle.records.specs.Valid.{Valid}
+use Rattle.record_rows.specs.inner.Valid.{Valid}
 use Rattle.figures.specs.Balance.{onLine, atProxy, totalLoad, importInto, lineImports, zoneLoad, netLoad, proxyImport, proxyImports, finalLoad, output, outputIn, zoneOutput, exportFrom, lineExports, zoneGeneration, netGeneration, proxyExport, proxyExports, finalGeneration, grossOutput, grossLoad}
 use Rattle.figures.specs.Flow.{common, noncommon, outputTerm, loadTerm, netSchedule, scheduleTerm, scheduleFlow, parallel, shadow, controlTerm, control, unitFactor, zoneFactor, pointFactor, parFactor}
 pub use Rattle.figures.proofs.Numbers.{cond-within, times-within, sum-within}

@@ -13,7 +13,7 @@ use lib.Seq.{getD-set-same, getD-set-other}
 use Rattle.fields.specs.Fields.{be64}
 use Rattle.fields.proofs.Laws.{equal-or}
 use Rattle.names.specs.Names.{nameAt, sameList, seenBefore}
-use Rattle.names.proofs.Laws.{same-words}
+use Rattle.names.proofs.SameNames.{same-words}
 use Rattle.name_index.specs.declared.Run.{Run}
 use Rattle.name_index.specs.inner.Index.{highModulus, lowModulus, hashOf, hashAt, namesAt, latest, placeOf, longer, Indexed, withHash, withNext}
 

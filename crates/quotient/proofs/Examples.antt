@@ -1,8 +1,8 @@
--- Document 01, 'Figures to hold against it': the worked quotients. Assumes nothing.
+-- Document 01, 'Figures to hold against it': the worked quotients.
 use mathlib.Core.Path.{_≡_, refl}
 use mathlib.Core.List.{List, [], _∷_, map}
 use lib.IntN.{ℤ, pos, negsuc}
-use Rattle.quotient.specs.Rounded.{goesAway, away, step, quotient, remainder}
+use Rattle.quotient.specs.Rounded.{quotient, remainder}
 
 -- dividend, divisor, quotient, remainder
 abbrev table : List (ℤ × ℤ × ℤ × ℤ)
@@ -13,5 +13,5 @@ table =
     ∷ []
 
 pub examples : map (λ (e : ℤ × ℤ × ℤ × ℤ). (e .0, e .1, quotient (e .0) (e .1), remainder (e .0) (e .1))) table ≡ table
-unfolding goesAway away step quotient remainder
+unfolding quotient remainder
 examples = refl

@@ -1,2 +1,4 @@
+pub mod Rounded
 pub mod Laws
+pub mod Step
 pub mod Examples

@@ -1,26 +1,23 @@
--- Document 01, 'Units': the rounded quotient of n by d above zero, the whole number nearest to n / d, halves away from zero; and its remainder. Assumes nothing.
-use Prim.Native.Nat.{ℕ, _-_}
-use mathlib.Core.Bool.{Bool, cond}
-use lib.Dec.{leb}
-use lib.IntN.{ℤ, pos, negsuc, natAbs, _+ℤ_, _-ℤ_, _*ℤ_}
-use lib.Signed.{quotZ, remZ}
+-- Document 01, 'Units': the rounded quotient of n by d, with d above zero, is the whole number nearest to n / d, halves away from zero; its remainder is n − quotient × d.
+use Prim.Native.Nat.{ℕ, suc, _+_, _*_, _/_, _≤_}
+use mathlib.Core.Path.{_≡_}
+use lib.IntN.{ℤ, pos, negsuc, negℤ, natAbs, _-ℤ_, _*ℤ_}
 
--- The tie rule, where the division toward zero leaves a remainder of this size, and `rest` is what the size lacks of the divisor:
--- the quotient goes one further from zero where the size is more than half of the divisor, and where it is just half.
-unfoldable pub goesAway : ℕ → ℕ → Bool
-goesAway size rest = leb rest size
+-- how far q is from n / d, in parts of d
+abbrev pub distance : ℤ → ℤ → ℤ → ℕ
+distance n d q = natAbs (n -ℤ q *ℤ d)
 
--- one step away from zero, on the side of r
-unfoldable pub away : ℤ → ℤ
-away (pos n) = pos 1
-away (negsuc n) = negsuc 0
+-- q is the rounded quotient of n by d
+pub record IsRounded (n d q : ℤ) : Type 0 where
+  -- the nearest: no whole number is nearer to n / d
+  pub nearest : (k : ℤ) → distance n d q ≤ distance n d k
+  -- halves away from zero: of two that are equally near, the one further from zero
+  pub halves : (k : ℤ) → distance n d k ≡ distance n d q → natAbs k ≤ natAbs q
 
--- what is added to the quotient toward zero, which leaves the remainder r
-unfoldable pub step : ℤ → ℤ → ℤ
-step r d = cond (goesAway (natAbs r) (natAbs d - natAbs r)) (away r) (pos 0)
-
+-- That number, worked out: half of d is added to the size of n. `quotient-is` (proofs/Rounded) says that `IsRounded n d` holds of this one and of no other.
 unfoldable pub quotient : ℤ → ℤ → ℤ
-quotient n d = quotZ n d +ℤ step (remZ n d) d
+quotient (pos n) d = pos ((2 * n + natAbs d) / (2 * natAbs d))
+quotient (negsuc n) d = negℤ (pos ((2 * suc n + natAbs d) / (2 * natAbs d)))
 
 unfoldable pub remainder : ℤ → ℤ → ℤ
 remainder n d = n -ℤ quotient n d *ℤ d

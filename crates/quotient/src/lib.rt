@@ -3,7 +3,8 @@ ghost use mathlib.Core.Path.{_≡_};
 ghost use Prim.Native.Nat.{_<_};
 ghost use lib.IntN.{pos, natAbs};
 ghost use lib.Signed.{_<ℤ_};
-ghost use Rattle.quotient.specs.Rounded.{quotient, remainder, goesAway, away, step};
+ghost use Rattle.quotient.specs.Rounded.{IsRounded, quotient, remainder};
+ghost use Rattle.quotient.specs.inner.Step.{goesAway, away, step};
 
 pub struct Quotient {
     pub quotient: i64,
@@ -39,7 +40,7 @@ fn step_of(r: i64, d: i64) -> i64
 // For every n, and every d above zero.
 pub fn rounded_quotient(n: i64, d: i64) -> Quotient
     requires { ⌜ pos 0 <ℤ d ⌝ }
-    ensures { λ r. ⌜ (r .quotient ≡ quotient n d) × (r .remainder ≡ remainder n d) ⌝ }
+    ensures { λ r. ⌜ (r .quotient ≡ quotient n d) × (r .remainder ≡ remainder n d) × IsRounded n d (r .quotient) ⌝ }
 {
     let q = n / d;
     let r = n % d;

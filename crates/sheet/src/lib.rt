@@ -43,7 +43,7 @@ fn named_row(zones: usize, kind: u8, repeated: bool, b: &[u8]) -> u8
     requires { ⌜ (1 ≤ kind) × (kind ≤ 5) × (bodyLength kind ≤ length (now b)) ⌝ }
     ensures { λ r. ⌜ ((c : Content) → length (c .zones) ≡ zones → r ≡ bodyRow c kind repeated (now (b .entry))) ⌝ }
 {
-    let well = names::name_ok(names::name_at(b, 0));
+    let well = names::name_ok_at(b, 0);
     match kind {
         1 => record_rows::head_row(well, bodies::head_of(b)),
         2 => record_rows::zone_row(well, repeated, bodies::zone_of(b)),

@@ -8,7 +8,7 @@ use mir.Syntax.{w64}
 use mir.Facts.{toZ-ofZ}
 use borrow.Author.Needs.{needs}
 use lib.ListN.{length, drop, length-drop}
-use Rattle.names.proofs.Laws.{words-are}
+use Rattle.names.proofs.SameNames.{words-are}
 use Rattle.names.specs.Names.{nameAt, sameList}
 use Rattle.entitlements.proofs.Walk.{Whole, passed-whole, whole-next, whole-name, look-other-length, look-here, look-on, look-end, tail-part}
 use Rattle.entitlements.specs.declared.Entitlement.the-variants.{Found}

@@ -29,7 +29,7 @@ rounded-quotient-requires c κs = search needs
 
 returns : tie.Need-returns
 returns c =
-    divided (c .rounded-quotient .result) (c .rounded-quotient .ensures) (dividend (c .before) .num .is) (toZ-ofZ (c .before .fits .net-load))
+    divided (c .rounded-quotient .result) (c .rounded-quotient .ensures .0, c .rounded-quotient .ensures .1) (dividend (c .before) .num .is) (toZ-ofZ (c .before .fits .net-load))
 
 pub load-share-spec : {M : Type 1} → statement M
 load-share-spec =

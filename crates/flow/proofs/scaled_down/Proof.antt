@@ -36,7 +36,7 @@ rounded-quotient-requires c κs = search needs
 
 returns : tie.Need-returns
 returns c =
-    divided (c .rounded-quotient .result) (c .rounded-quotient .ensures) (dividend (c .before) .num .is) (toZ-ofZ (c .before .fits .net-generation))
+    divided (c .rounded-quotient .result) (c .rounded-quotient .ensures .0, c .rounded-quotient .ensures .1) (dividend (c .before) .num .is) (toZ-ofZ (c .before .fits .net-generation))
 
 pub scaled-down-spec : {M : Type 1} → statement M
 scaled-down-spec =

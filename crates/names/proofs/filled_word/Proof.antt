@@ -1,6 +1,6 @@
--- `filled_word` meets its contract. Assumes nothing.
+-- `filled_word` meets its contract.
 use borrow.Author.Needs.{needs}
-use Rattle.names.specs.Words.{filledWord}
+use Rattle.names.specs.inner.Words.{filledWord}
 use Rattle.names.proofs.filled_word.Statement.{statement}
 use Rattle.names.proofs.filled_word.Tie as tie
 

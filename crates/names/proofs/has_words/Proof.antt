@@ -1,8 +1,8 @@
--- `has_words` meets its contract. Assumes nothing.
+-- `has_words` meets its contract.
 use mathlib.Core.Path.{_≡_, sym, _∙_}
 use borrow.Author.Needs.{needs}
 use borrow.Author.Tests.{eq-eqb, ne-eqb}
-use Rattle.names.specs.Names.{hasWords}
+use Rattle.names.specs.inner.Words.{hasWords}
 use Rattle.names.proofs.has_words.Statement.{statement}
 use Rattle.names.proofs.has_words.Tie as tie
 

@@ -1,7 +1,7 @@
--- `no_zero` meets its contract: a sum that finds the zero bytes. Assumes nothing.
+-- `no_zero` meets its contract: a sum that finds the zero bytes.
 use native.Mathlib.Omega.{arith}
 use lib.Bits.{and-le-r}
-use Rattle.names.proofs.Words.{flags, flags-are}
+use Rattle.names.proofs.ZeroBytes.{flags, flags-are}
 use Rattle.names.proofs.no_zero.Statement.{statement}
 use Rattle.names.proofs.no_zero.Tie as tie
 

@@ -1,7 +1,7 @@
--- `words_ok` meets its contract. Assumes nothing.
+-- `words_ok` meets its contract.
 use borrow.Author.Tests.{eq-eqb, ne-eqb}
 use borrow.Author.Needs.{needs}
-use Rattle.names.specs.Words.{wordsOk}
+use Rattle.names.specs.inner.Words.{wordsOk}
 use Rattle.names.proofs.words_ok.Statement.{statement}
 use Rattle.names.proofs.words_ok.Tie as tie
 

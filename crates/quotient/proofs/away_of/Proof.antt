@@ -1,7 +1,7 @@
--- `away_of` meets its contract. Assumes nothing.
+-- `away_of` meets its contract.
 use mathlib.Core.Path.{refl, sym, ap, _∙_}
 use Rattle.integers.proofs.Machine.{negative, not-negative}
-use Rattle.quotient.specs.Rounded.{away}
+use Rattle.quotient.specs.inner.Step.{away}
 use Rattle.quotient.proofs.away_of.Statement.{statement}
 use Rattle.quotient.proofs.away_of.Tie as tie
 

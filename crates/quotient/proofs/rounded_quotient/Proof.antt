@@ -1,5 +1,5 @@
--- `rounded_quotient` meets its contract, at every dividend and every divisor above zero. Assumes nothing.
-use mathlib.Core.Path.{_≡_, refl, sym}
+-- `rounded_quotient` meets its contract, at every dividend and every divisor above zero.
+use mathlib.Core.Path.{_≡_, sym}
 use Prim.Native.Nat.{_*_, _<_, _≤_, _^_}
 use native.Mathlib.Nat.{mul-le-mul-right}
 use native.Mathlib.Omega.{arith}
@@ -9,13 +9,16 @@ use mir.Facts.{toZ-ofZ}
 use mir.Syntax.{w64}
 use mir.Val.{SFits}
 use borrow.Author.Needs.{needs}
-use Rattle.integers.proofs.Linear.{sfits, zarith}
+use Rattle.integers.proofs.Linear.{zarith}
 use Rattle.integers.proofs.Tactic.{zi, zo}
 use Rattle.integers.proofs.Absolute.{abs-mul}
 use Rattle.integers.proofs.Division.{abs-rem, fit-quot, fit-rem}
 use Rattle.integers.proofs.Machine.{abs-fits, ofZ-pos}
-use Rattle.quotient.specs.Rounded.{quotient, remainder, step}
-use Rattle.quotient.proofs.Laws.{left, near, step-small, quotient-most, quotient-least}
+use Rattle.quotient.specs.Rounded.{quotient, remainder}
+use Rattle.quotient.specs.inner.Step.{step}
+use Rattle.quotient.proofs.Rounded.{quotient-rounded}
+use Rattle.quotient.proofs.Laws.{near, quotient-fits}
+use Rattle.quotient.proofs.Step.{step-quotient, step-remainder, step-small}
 use Rattle.quotient.proofs.rounded_quotient.Statement.{statement}
 use Rattle.quotient.proofs.rounded_quotient.Tie as tie
 
@@ -27,9 +30,8 @@ module _ (n d : ℤ) (fn : SFits w64 n) (fd : SFits w64 d) (h : pos 0 <ℤ d) wh
   abbrev k : ℤ
   k = step (remZ n d) d
 
-  quotient-fits : SFits w64 (quotZ n d +ℤ k)
-  unfolding quotient
-  quotient-fits = sfits (quotient n d) .1 (quotient-least n d h 9223372036854775808 (sfits n .0 fn .0), quotient-most n d h 9223372036854775807 (sfits n .0 fn .1))
+  sum-fits : SFits w64 (quotZ n d +ℤ k)
+  sum-fits = rw (step-quotient n d h) (quotient-fits n d h fn)
 
   product-fits : SFits w64 (k *ℤ d)
   product-fits = abs-fits (k *ℤ d) (omega (arith, abs-mul k d, mul-le-mul-right (natAbs d) (step-small (remZ n d) d), size))
@@ -42,7 +44,7 @@ module _ (n d : ℤ) (fn : SFits w64 n) (fd : SFits w64 d) (h : pos 0 <ℤ d) wh
           go (lib.IntN.negsuc b) h f = absurd (h .lt)
 
   difference-fits : SFits w64 (remZ n d -ℤ k *ℤ d)
-  difference-fits = rw (← left n d h) (remainder-fits (remainder n d) d (near n d h) fd)
+  difference-fits = rw (← step-remainder n d h) (remainder-fits (remainder n d) d (near n d h) fd)
 
 div-q : tie.Need-div-q
 div-q c = (ofZ-pos (c .pre), rw (toZ-ofZ (c .fits .n), toZ-ofZ (c .fits .d)) (fit-quot (c .fits .n) (c .pre)))
@@ -69,7 +71,7 @@ k-fits c = search needs
 add-t6 : tie.Need-add-t6
 add-t6 c =
     let s = c .before in
-    simp (toZ-ofZ, s .fits .n, s .fits .d, f-q s, k-fits c) (rw (k-is c) (quotient-fits _ _ (s .fits .n) (s .fits .d) (s .pre)))
+    simp (toZ-ofZ, s .fits .n, s .fits .d, f-q s, k-fits c) (rw (k-is c) (sum-fits _ _ (s .fits .n) (s .fits .d) (s .pre)))
 
 mul-t7 : tie.Need-mul-t7
 mul-t7 c =
@@ -82,11 +84,10 @@ sub-t8 c =
     rw (toZ-ofZ (mul-t7 c)) (simp (toZ-ofZ, s .fits .n, s .fits .d, f-r s, k-fits c) (rw (k-is c) (difference-fits _ _ (s .fits .n) (s .fits .d) (s .pre))))
 
 returns : tie.Need-returns
-unfolding quotient
 returns c =
     let s = c .before in
     rw (toZ-ofZ (add-t6 c), toZ-ofZ (sub-t8 c), toZ-ofZ (mul-t7 c))
-    (simp (toZ-ofZ, s .fits .n, s .fits .d, f-q s, f-r s, k-fits c) (rw (k-is c) (refl, sym (left _ _ (s .pre)))))
+    (simp (toZ-ofZ, s .fits .n, s .fits .d, f-q s, f-r s, k-fits c) (rw (k-is c) (let e = step-quotient _ _ (s .pre) in (e, sym (step-remainder _ _ (s .pre)), rw e (quotient-rounded _ _ (s .pre))))))
 
 pub rounded-quotient-spec : {M : Type 1} → statement M
 rounded-quotient-spec = tie.close (tie.spec div-q rem-r step-of-requires add-t6 mul-t7 sub-t8 returns)

@@ -1,4 +1,4 @@
--- `step_of` meets its contract. Assumes nothing.
+-- `step_of` meets its contract.
 use mathlib.Core.Path.{_≡_, sym, ap, _∙_}
 use mathlib.Core.Bool.{Bool, true, false}
 use Prim.Native.Nat.{_-_, _<_}
@@ -8,7 +8,7 @@ use mir.Facts.{toZ-ofZ}
 use mir.Syntax.{w64}
 use mir.Val.{SFits}
 use borrow.Author.Needs.{needs}
-use Rattle.quotient.specs.Rounded.{goesAway, away, step}
+use Rattle.quotient.specs.inner.Step.{goesAway, away, step}
 use Rattle.quotient.proofs.step_of.Statement.{statement}
 use Rattle.quotient.proofs.step_of.Tie as tie
 

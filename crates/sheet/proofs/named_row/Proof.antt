@@ -1,13 +1,13 @@
 -- `named_row` meets its contract, kind by kind.
 use Prim.Native.Nat.{ℕ, _≤_}
-use mathlib.Core.Path.{_≡_, ap, _∙_}
+use mathlib.Core.Path.{_≡_}
 use borrow.Author.Needs.{needs}
 use native.Mathlib.Omega.{arith}
 use denote.Ref.{now}
 use Rattle.names.specs.Names.{nameOk, nameAt}
 use Rattle.records.specs.Bodies.{headOf, zoneOf, unitOf, pointOf, parOf}
-use Rattle.record_rows.specs.Rows.{bodyRow}
 use Rattle.layout.proofs.Names.{named-room}
+use Rattle.record_rows.specs.Rows.{bodyRow}
 use Rattle.sheet.proofs.named_row.Statement.{statement}
 use Rattle.sheet.proofs.named_row.Tie as tie
 
@@ -15,51 +15,48 @@ use Rattle.sheet.proofs.named_row.Tie as tie
 fifth : (kind : ℕ) → 1 ≤ kind → kind ≤ 5 → (kind ≡ 1 → ⊥) → (kind ≡ 2 → ⊥) → (kind ≡ 3 → ⊥) → (kind ≡ 4 → ⊥) → kind ≡ 5
 fifth k low high a b c d = omega arith
 
-is-par : (c : tie.At-match-rest) → c .before .before .before .before .args .kind ≡ 5
+is-par : (c : tie.At-match-rest) → c .before .before .before .args .kind ≡ 5
 is-par c =
-    let p = c .before .before .before .before .pre in
+    let p = c .before .before .before .pre in
     let n = c .match .rest in
     fifth _ (p .0) (p .1) (n .0 .0 .0 .1) (n .0 .0 .1) (n .0 .1) (n .1)
 
-name-at-requires : tie.Need-name-at-requires
-name-at-requires c κs = let p = c .before .pre in omega (arith, named-room _ (p .0) (p .1), p .2)
+name-ok-at-requires : tie.Need-name-ok-at-requires
+name-ok-at-requires c κs = let p = c .before .pre in omega (arith, named-room _ (p .0) (p .1), p .2)
 
-name-ok-requires : tie.Need-name-ok-requires
-name-ok-requires c κs = search needs
-
-well : (c : tie.After-name-ok) → c .name-ok .result ≡ nameOk (nameAt (now (c .before .before .before .args .b)) 0)
-well c = c .name-ok .ensures ∙ ap nameOk (c .before .name-at .ensures)
+well : (c : tie.After-name-ok-at) → c .name-ok-at .result ≡ nameOk (nameAt (now (c .before .before .args .b)) 0)
+well c = c .name-ok-at .ensures
 
 head-of-requires : tie.Need-head-of-requires
-head-of-requires c κs = rw (c .match .keys1) at (c .before .before .before .before .pre .2)
+head-of-requires c κs = rw (c .match .keys1) at (c .before .before .before .pre .2)
 
 head-row-requires : tie.Need-head-row-requires
 unfolding headOf
 head-row-requires c κs = rw (c .head-of .ensures) (well (c .before .before))
 
 zone-of-requires : tie.Need-zone-of-requires
-zone-of-requires c κs = rw (c .match .keys2) at (c .before .before .before .before .pre .2)
+zone-of-requires c κs = rw (c .match .keys2) at (c .before .before .before .pre .2)
 
 zone-row-requires : tie.Need-zone-row-requires
 unfolding zoneOf
 zone-row-requires c κs = rw (c .zone-of .ensures) (well (c .before .before))
 
 unit-of-requires : tie.Need-unit-of-requires
-unit-of-requires c κs = rw (c .match .keys3) at (c .before .before .before .before .pre .2)
+unit-of-requires c κs = rw (c .match .keys3) at (c .before .before .before .pre .2)
 
 unit-row-requires : tie.Need-unit-row-requires
 unfolding unitOf
 unit-row-requires c κs = rw (c .unit-of .ensures) (well (c .before .before))
 
 point-of-requires : tie.Need-point-of-requires
-point-of-requires c κs = rw (c .match .keys4) at (c .before .before .before .before .pre .2)
+point-of-requires c κs = rw (c .match .keys4) at (c .before .before .before .pre .2)
 
 point-row-requires : tie.Need-point-row-requires
 unfolding pointOf
 point-row-requires c κs = rw (c .point-of .ensures) (well (c .before .before))
 
 par-of-requires : tie.Need-par-of-requires
-par-of-requires c κs = rw (is-par c) at (c .before .before .before .before .pre .2)
+par-of-requires c κs = rw (is-par c) at (c .before .before .before .pre .2)
 
 par-row-requires : tie.Need-par-row-requires
 unfolding parOf
@@ -89,8 +86,7 @@ pub named-row-spec : {M : Type 1} → statement M
 named-row-spec =
     tie.close
     (tie.spec
-    name-at-requires
-    name-ok-requires
+    name-ok-at-requires
     head-of-requires
     head-row-requires
     zone-of-requires
