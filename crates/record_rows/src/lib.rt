@@ -9,7 +9,6 @@ ghost use Rattle.due_factors.specs.inner.Places.{Few};
 ghost use Rattle.record_rows.specs.Rows.{unknownKind, outOfOrder, oneTooMany, frontRow, noRto, noType, noZoneOf, placeUnknown, headRow, zoneRow, unitRow, pointRow, parRow, factorRow, endRow};
 use due_factors::Counts;
 use due_factors::Due;
-use records::bodies;
 use records::Factor;
 use records::Head;
 use records::Par;
@@ -17,6 +16,7 @@ use records::Place;
 use records::Point;
 use records::Unit;
 use records::Zone;
+use records::bodies;
 use rows::row;
 
 const MOST_SECONDS: usize = 900;

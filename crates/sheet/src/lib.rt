@@ -17,11 +17,11 @@ ghost use Rattle.sheet.specs.declared.Outcome.the-variants.{Accepted};
 ghost use Rattle.sheet.specs.Sheet.{readSheet, contentOf};
 ghost use Rattle.sheet.specs.inner.Passed.{Passed};
 ghost use Rattle.sheet.specs.inner.GoodFactors.{keyOf, Good};
-use layout::counts_in;
 use layout::Layout;
-use records::bodies;
+use layout::counts_in;
 use records::FACTOR_BODY;
 use records::FACTOR_KIND;
+use records::bodies;
 
 // How many bytes a factor's record has: one of kind, then the body.
 const FACTOR_SIZE: usize = FACTOR_BODY + 1;
