@@ -8,10 +8,11 @@ use lib.IntN.{ℤ, pos, negsuc, natAbs, _-ℤ_, _*ℤ_}
 use lib.ListN.{length}
 use lib.Signed.{_<ℤ_}
 use Rattle.records.specs.declared.Place.the-variants.{Proxy}
+use Rattle.records.specs.Codes.{common, noncommon}
 use Rattle.records.specs.Content.{Content, head}
 use Rattle.record_rows.specs.inner.Valid.{Valid}
 use Rattle.figures.specs.Balance.{balanceRow}
-use Rattle.figures.specs.Flow.{common, noncommon, marketFlow}
+use Rattle.figures.specs.Flow.{marketFlow}
 use Rattle.figures.specs.Payment.{difference, price, amount}
 use Rattle.figures.proofs.Examples.{printed, refused, headOf, zoneOf, unitOf, pointOf, parOf, factorOf, plain, sheetS, thirds, exporting}
 use Rattle.figures.proofs.Accepted.{proxy-fits, dueCount, valid-of, s-valid, s-balanced}

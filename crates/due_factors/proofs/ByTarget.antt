@@ -6,7 +6,7 @@ use native.Mathlib.Numerals.{add-one}
 use native.Mathlib.Omega.{arith}
 use lib.ListN.{length, getD}
 use borrow.Author.Tests.{ne-eqb, lt-ltb, le-ltb}
-use Rattle.fields.proofs.Laws.{below-or}
+use Rattle.integers.proofs.Cases.{below-or}
 use Rattle.due_factors.specs.declared.Counts.{Counts}
 use Rattle.due_factors.specs.declared.Standing.{Standing}
 use Rattle.due_factors.specs.Due.{dueList, noDue}

@@ -7,16 +7,13 @@ use native.Mathlib.Omega.{arith}
 use lib.Dec.{eqb}
 use lib.ListN.{length, getD}
 use borrow.Author.Tests.{eqb-true, eq-eqb, ne-eqb}
+use Rattle.rows.proofs.NotMet.{both}
 use Rattle.due_factors.specs.declared.Counts.{Counts}
 use Rattle.due_factors.specs.declared.Due.{Due}
 use Rattle.due_factors.specs.Due.{key, dueList, noDue, Asked}
 use Rattle.due_factors.specs.inner.Places.{every, offset, start, same, placeIn}
 use Rattle.due_factors.proofs.ByTarget.{start-flowgate}
 use Rattle.due_factors.proofs.Keys.{placeAt, asked-stands, due-once}
-
-pub both : (a b : Bool) → (a && b) ≡ true → (a ≡ true) × (b ≡ true)
-both true b q = (refl, q)
-both false b q = let z : _≡_ {A = ℕ} 0 1 = cc in absurd (omega arith)
 
 made : (t s i t' s' i' : ℕ) → t ≡ t' → s ≡ s' → i ≡ i' → _≡_ {A = Due} (record { target = t; subject = s; index = i }) (record { target = t'; subject = s'; index = i' })
 made t s i t' s' i' a b c = rw (a, b, c)

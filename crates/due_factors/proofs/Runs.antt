@@ -9,13 +9,13 @@ use lib.ListN.{length, getD, drop, length-drop}
 use lib.Seq.{getD-drop}
 use native.Mathlib.Nat.{suc-ne-zero}
 use borrow.Author.Tests.{eqb-true, eq-eqb, ne-eqb}
+use Rattle.rows.proofs.NotMet.{both}
 use Rattle.due_factors.specs.declared.Counts.{Counts}
 use Rattle.due_factors.specs.declared.Due.{Due}
 use Rattle.due_factors.specs.Due.{key, dueList, noDue, howMany}
 use Rattle.due_factors.specs.inner.Places.{Few, every, parsOn, alike, moreOfRun}
 use Rattle.due_factors.proofs.DueList.{whole, in-units, in-zones, in-points, in-pars}
 use Rattle.due_factors.proofs.Keys.{subjects, manyOn, placeAt, key-stands, DueThere, due-there}
-use Rattle.due_factors.proofs.KeyPlaces.{both}
 
 -- of this one's target and subject
 record Alike (d e : Due) : Type 0 where

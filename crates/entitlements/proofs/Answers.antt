@@ -8,7 +8,7 @@ use native.Mathlib.Omega.{arith}
 use lib.IntN.{ℤ, pos, natAbs}
 use lib.ListN.{length, take}
 use lib.Seq.{length-take-le, take-all}
-use Rattle.fields.proofs.Laws.{below-or}
+use Rattle.integers.proofs.Cases.{below-or}
 use Rattle.names.specs.Names.{sameList}
 use Rattle.names.proofs.SameNames.{same-refl, same-true}
 use Rattle.entitlements.specs.Entitlements.{Entry, recordLength, mostRecords, mostValue, anyFault, row14, entriesFrom, entriesOf, lookUp, entitlement}

@@ -11,6 +11,7 @@ use lib.ListN.{length}
 use lib.Seq.{length-take-le}
 use Rattle.names.specs.Names.{badName, nameOk, seenBefore}
 use Rattle.rows.specs.Rows.{beyond}
+use Rattle.rows.proofs.NotMet.{neither}
 use Rattle.entitlements.specs.Entitlements.{Entry, entryKind, bodyLength, recordLength, mostRecords, mostValue, entryOf, recordFault}
 
 -- an entry that passes behind the entries es
@@ -27,14 +28,10 @@ pub record Passes (es : List (List ℕ)) (k : ℕ) (r : List ℕ) : Type 0 where
   pub kind : k ≡ entryKind
   pub kept : Kept es (entryOf r)
 
--- tests
+-- by a test
 pub either : {P : Type 0} (t : Bool) → (t ≡ true → P) → (t ≡ false → P) → P
 either true p q = p refl
 either false p q = q refl
-
-pub or-none : (a b : Bool) → (a || b) ≡ false → (a ≡ false) × (b ≡ false)
-or-none true b e = absurd (let z : _≡_ {A = ℕ} 0 1 = cc in omega arith)
-or-none false b e = (refl, e)
 
 module _ (es : List (List ℕ)) (k : ℕ) (r : List ℕ) where
   name-sized : bodyLength ≤ length r → length (entryOf r .name) ≡ 16
@@ -44,11 +41,11 @@ module _ (es : List (List ℕ)) (k : ℕ) (r : List ℕ) where
   pub passes : recordFault es k r ≡ false → Passes es k r
   unfolding recordFault
   passes e =
-      let a = or-none _ _ e in
-      let b = or-none _ _ (a .0) in
-      let c = or-none _ _ (b .0) in
-      let d = or-none _ _ (c .0) in
-      let f = or-none _ _ (d .0) in
+      let a = neither _ _ e in
+      let b = neither _ _ (a .0) in
+      let c = neither _ _ (b .0) in
+      let d = neither _ _ (c .0) in
+      let f = neither _ _ (d .0) in
       let w : bodyLength ≤ length r = ltb-false _ _ (f .0) in
       record {
         whole = w;

@@ -11,10 +11,11 @@ use lib.Seq.{drop-cons, drop-drop, take-all, take-length}
 use Rattle.names.specs.Names.{nameAt, sameList}
 use Rattle.name_index.specs.inner.Index.{namesAt}
 use Rattle.names.proofs.SameNames.{same-uneven}
+use Rattle.rows.proofs.NotMet.{neither}
 use Rattle.entitlements.specs.Entitlements.{Entry, bodyLength, recordLength, entryOf, recordFault, anyFault, row14, entriesFrom, entriesOf, lookUp}
 use Rattle.entitlements.specs.inner.Steps.{firstNames}
 use Rattle.entitlements.specs.declared.Entitlement.the-variants.{Found, Refused}
-use Rattle.entitlements.proofs.Records.{Kept, or-none, passes}
+use Rattle.entitlements.proofs.Records.{Kept, passes}
 
 fault-skip : (es : List (List ℕ)) (n : ℕ) (l : List ℕ) → anyFault es n l ≡ anyFault es 0 (drop n l)
 unfolding anyFault
@@ -46,7 +47,7 @@ module _ (s : List ℕ) (at : ℕ) (h : at < length s) where
 
   -- a list without faults has none here
   pub fault-none : (es : List (List ℕ)) → anyFault es 0 (drop at s) ≡ false → recordFault es (getD s at 0) (drop (at + 1) s) ≡ false
-  fault-none es e = or-none _ _ (sym (fault-at es) ∙ e) .0
+  fault-none es e = neither _ _ (sym (fault-at es) ∙ e) .0
 
   pub entries-at : entriesOf (drop at s) ≡ entryOf (drop (at + 1) s) ∷ entriesOf (drop (at + recordLength) s)
   unfolding entriesFrom
@@ -78,7 +79,7 @@ unfolding anyFault entriesFrom
 pass-from es skip [] h = none
 pass-from es (suc skip) (b ∷ r) h = pass-from es skip r h
 pass-from es zero (k ∷ r) h =
-    let a = or-none (recordFault es k r) _ h in
+    let a = neither (recordFault es k r) _ h in
     one (passes es k r (a .0) .kept) (pass-from (entryOf r .name ∷ es) bodyLength r (a .1))
 
 -- no record of l is cut short
@@ -90,7 +91,7 @@ unfolding anyFault entriesFrom
 whole-from es skip [] h e = omega arith
 whole-from es (suc skip) (b ∷ r) h e = omega (arith, whole-from es skip r (omega arith) e)
 whole-from es zero (k ∷ r) h e =
-    let a = or-none (recordFault es k r) _ e in
+    let a = neither (recordFault es k r) _ e in
     omega (arith, whole-from (entryOf r .name ∷ es) bodyLength r (passes es k r (a .0) .whole) (a .1))
 
 pub passed-whole : (s : List ℕ) → row14 s ≡ false → Whole s

@@ -6,7 +6,7 @@ use native.Mathlib.Omega.{arith}
 use lib.ListN.{length, take, drop, getD, length-append, length-drop, List·getD-append}
 use lib.Seq.{getD-append-add, getD-append-seam, take-length}
 use Rattle.fields.specs.Lists.{tab}
-use Rattle.fields.proofs.Laws.{below-or}
+use Rattle.integers.proofs.Cases.{below-or}
 
 pub getD-behind : {A : Type 0} (l r : List A) (i : ℕ) (d : A) → length l ≤ i → getD (l ++ r) i d ≡ getD r (i - length l) d
 getD-behind l r i d h =

@@ -11,6 +11,7 @@ use lib.Signed.{_≤ℤ_, _<ℤ_}
 use Rattle.integers.proofs.Parts.{lt-to}
 use Rattle.integers.proofs.Absolute.{abs-sub, abs-neg}
 use Rattle.records.specs.declared.Head.{Head}
+use Rattle.records.specs.Codes.{nyiso, pjm}
 use Rattle.records.specs.Content.{Content, head}
 use Rattle.record_rows.specs.inner.Valid.{Valid, HeadFits}
 use Rattle.figures.specs.Flow.{marketFlow, flowRow}
@@ -72,7 +73,7 @@ module _ (c : Content) (entitlement : ℤ) (e : flowRow (marketFlow c) ≡ 0) (h
   amount-within v = amount-of-within (v .head-fits) (difference c entitlement) difference-within
 
 -- the two payments of an amount: one is the other's negative, and neither is larger than it
-pub payments-opposite : {h : Head} → HeadFits h → (a : ℤ) → payment h a 2 ≡ negℤ (payment h a 1)
+pub payments-opposite : {h : Head} → HeadFits h → (a : ℤ) → payment h a pjm ≡ negℤ (payment h a nyiso)
 unfolding payment
 payments-opposite {h} f a = go (eqb (h .«monitoring_rto») 1) refl
   where

@@ -6,17 +6,16 @@ ghost use lib.Signed.{_<ℤ_};
 ghost use Rattle.sheet.specs.Sheet.{contentOf};
 ghost use Rattle.figures.specs.Flow.{carriedTerm, carriedSum, redirect, nonCommonRedirect, flowRow};
 ghost use Rattle.flow.specs.inner.Flow.{Ready, Divided, gtlOf, parShare, flowOf};
-use weighted_sums::COMMON;
-use weighted_sums::NON_COMMON;
-use weighted_sums::PAR;
-use weighted_sums::POINT;
-use weighted_sums::UNIT;
-use weighted_sums::ZONE;
+use records::COMMON;
+use records::NON_COMMON;
+use records::NYISO;
+use records::PAR;
+use records::POINT;
+use records::UNIT;
+use records::ZONE;
 
 // The flowgate as a target; the PAR of index i is target i + 1.
 const FLOWGATE: usize = 0;
-
-const NYISO: u8 = 1;
 
 // Of the market flow, either way.
 const MOST_FLOW: u64 = 10_000_000_000;

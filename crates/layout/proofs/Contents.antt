@@ -10,7 +10,7 @@ use lib.ListN.{length, drop}
 use borrow.Author.Tests.{eqb-true, eqb-false}
 use Rattle.fields.specs.Lists.{tab}
 use Rattle.fields.proofs.Lists.{length-tab}
-use Rattle.fields.proofs.Laws.{below-or}
+use Rattle.integers.proofs.Cases.{below-or}
 use Rattle.records.specs.Table.{bodyIn}
 use Rattle.records.specs.Bodies.{headOf, zoneOf, unitOf, pointOf, parOf, factorOf}
 use Rattle.records.specs.Content.{countOf, onlyIf, noContent, withRecord}

@@ -4,7 +4,7 @@ use mathlib.Core.Path.{_≡_, refl}
 use mathlib.Core.List.{List}
 use native.Mathlib.Omega.{arith}
 use lib.ListN.{length, replicate, length-replicate}
-use Rattle.fields.proofs.Laws.{below-or}
+use Rattle.integers.proofs.Cases.{below-or}
 use Rattle.name_index.specs.inner.Index.{Indexed, longer}
 use Rattle.name_index.proofs.Laws.{none-indexed, begun-indexed}
 use Rattle.layout.specs.declared.Layout.{Layout}

@@ -11,7 +11,7 @@ use lib.Bits.{and-le-r}
 use lib.ListN.{length, getD, set, replicate, length-set, length-replicate}
 use lib.Seq.{getD-set-same, getD-set-other}
 use Rattle.fields.specs.Fields.{be64}
-use Rattle.fields.proofs.Laws.{equal-or}
+use Rattle.integers.proofs.Cases.{equal-or}
 use Rattle.names.specs.Names.{nameAt, sameList, seenBefore}
 use Rattle.names.proofs.SameNames.{same-words}
 use Rattle.name_index.specs.declared.Run.{Run}

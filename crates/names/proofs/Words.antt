@@ -12,7 +12,8 @@ use lib.Dec.{eqb, lit<}
 use lib.ListN.{length, take, drop, getD, length-drop}
 use lib.Seq.{take-suc, take-add, drop-drop, getD-drop}
 use Rattle.fields.specs.Fields.{byteAt, be64}
-use Rattle.fields.proofs.Laws.{Bytes, equal-or}
+use Rattle.integers.proofs.Cases.{equal-or}
+use Rattle.fields.proofs.Bytes.{Bytes}
 use Rattle.names.specs.Names.{zeros, filled, nameOk, nameAt}
 use Rattle.names.specs.inner.Words.{nonZero, noZero, filledWord, wordsOk}
 

@@ -60,7 +60,7 @@ pub fn pay(h: Head, flow: i64, entitlement: i64) -> Payment
         entitlement: watts,
         price: price_of(h, difference),
         amount,
-        nyiso: paid_to(h, amount, 1),
-        pjm: paid_to(h, amount, 2),
+        nyiso: paid_to(h, amount, records::NYISO),
+        pjm: paid_to(h, amount, records::PJM),
     }
 }

@@ -5,7 +5,7 @@ use mathlib.Core.Bool.{Bool, true, false, _&&_, cond}
 use lib.Dec.{eqb, leb, ltb}
 use borrow.Author.Tests.{le-ltb, ltb-false, leb-false, eq-eqb}
 use Rattle.rows.specs.Rows.{row, cutShort}
-use Rattle.rows.proofs.NoneMet.{row-pass, neither, within}
+use Rattle.rows.proofs.NotMet.{row-pass, neither, within}
 use Rattle.records.specs.Table.{lastKind, bodyLength}
 use Rattle.record_rows.specs.Rows.{unknownKind, outOfOrder, oneTooMany, frontRow}
 

@@ -9,7 +9,7 @@ use lib.IntN.{natAbs}
 use lib.ListN.{length, getD}
 use borrow.Author.Tests.{ltb-false, leb-false, eqb-true, not-false}
 use Rattle.rows.specs.Rows.{row, outside, beyond}
-use Rattle.rows.proofs.NoneMet.{row-pass, neither, within}
+use Rattle.rows.proofs.NotMet.{row-pass, neither, within}
 use Rattle.names.specs.Names.{nameOk, badName}
 use Rattle.due_factors.specs.declared.Due.{Due}
 use Rattle.due_factors.specs.Due.{noDue}

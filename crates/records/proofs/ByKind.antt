@@ -7,7 +7,8 @@ use native.Mathlib.Omega.{arith}
 use lib.Dec.{leb}
 use lib.ListN.{length, getD, List·getD-eq-default}
 use borrow.Author.Tests.{leb-true}
-use Rattle.fields.proofs.Laws.{below-or}
+use Rattle.integers.proofs.Cases.{below-or}
+use Rattle.rows.proofs.NotMet.{both}
 use Rattle.records.specs.Table.{byKind, total, bodyLength, KindRow, noKind, kindRows, kindOf, lastKind}
 
 -- a fact of each kind
@@ -33,10 +34,6 @@ module _ {A : Type 0} (none : A) where
   unfoldable pub passing : (A → Bool) → List A → Bool
   passing f [] = true
   passing f (e ∷ es) = f e && passing f es
-
-  both : (a b : Bool) → (a && b) ≡ true → (a ≡ true) × (b ≡ true)
-  both true b q = (refl, q)
-  both false b q = let z : _≡_ {A = ℕ} 0 1 = cc in absurd (omega arith)
 
   tested : (f : A → Bool) (es : List A) → passing f es ≡ true → f none ≡ true → (k : ℕ) → f (getD es k none) ≡ true
   unfolding passing

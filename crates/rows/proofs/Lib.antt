@@ -1,1 +1,1 @@
-pub mod NoneMet
+pub mod NotMet

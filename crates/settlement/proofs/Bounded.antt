@@ -8,6 +8,7 @@ use mathlib.Core.List.{List}
 use lib.IntN.{ℤ, pos, natAbs, negℤ}
 use lib.ListN.{length}
 use lib.Signed.{_≤ℤ_}
+use Rattle.records.specs.Codes.{nyiso, common}
 use Rattle.records.specs.Content.{Content, head}
 use Rattle.record_rows.specs.inner.Valid.{Valid}
 use Rattle.entitlements.specs.declared.Entitlement.the-variants as found
@@ -15,7 +16,7 @@ use Rattle.entitlements.specs.Entitlements.{row14, entriesOf, lookUp, entitleme
 use Rattle.entitlements.proofs.Answers.{within}
 use Rattle.entitlements.proofs.Walk.{look-other-length}
 use Rattle.figures.specs.Balance.{balanceRow}
-use Rattle.figures.specs.Flow.{common, marketFlow, flowRow}
+use Rattle.figures.specs.Flow.{marketFlow, flowRow}
 use Rattle.figures.specs.Payment.{inWatts, difference, amount}
 use Rattle.figures.proofs.Ranges.{parallel-within, shadow-within}
 use Rattle.figures.proofs.Bounds.{first-remainder-small, generation-to-load-small, second-remainder-small, redirect-small, non-common-redirect-small}
@@ -74,7 +75,7 @@ figures-bounded c e v b f h n =
       price = price-within (v .head-fits) (difference c e);
       price-least = price-least (head c) (difference c e);
       amount = a;
-      nyiso = payment-within (head c) (amount c e) 1 a;
+      nyiso = payment-within (head c) (amount c e) nyiso a;
       pjm = payments-opposite (v .head-fits) (amount c e);
     }
 

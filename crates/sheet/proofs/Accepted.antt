@@ -11,9 +11,9 @@ use lib.ListN.{length, drop, getD, length-append}
 use lib.Seq.{length-take-le}
 use borrow.Author.Tests.{ltb-false, eqb-true, eqb-false, eq-eqb, not-false}
 use Rattle.fields.specs.Fields.{byteAt}
-use Rattle.fields.proofs.Laws.{below-or}
+use Rattle.integers.proofs.Cases.{below-or}
 use Rattle.fields.proofs.Lists.{getD-tab}
-use Rattle.rows.proofs.NoneMet.{row-pass, neither}
+use Rattle.rows.proofs.NotMet.{row-pass, neither}
 use Rattle.records.specs.Table.{bodyIn}
 use Rattle.records.specs.Bodies.{headOf, zoneOf, unitOf, pointOf, parOf, factorOf}
 use Rattle.records.specs.Content.{Content, onlyIf, withRecord, noHead, noZone, noUnit, noPoint, noPar, noFactor, head, zone, unit, point, par, factorFor}

@@ -16,8 +16,8 @@ use Rattle.records.specs.Content.{Content, noContent, withRecord}
 use Rattle.record_rows.specs.Rows.{firstRow, recordRow, lastRow}
 use Rattle.layout.specs.declared.Layout.{Layout}
 use Rattle.layout.specs.Layout.{layoutOf}
-use Rattle.sheet.specs.declared.Outcome.the-variants.{Accepted}
-use Rattle.sheet.specs.Sheet.{Reading, holds, fails, unless, recordsFrom, reading, outcome, readSheet, contentOf}
+use Rattle.sheet.specs.declared.Outcome.the-variants.{Accepted, Refused}
+use Rattle.sheet.specs.Sheet.{Reading, holds, fails, unless, recordsFrom, reading, outcome, readSheet, contentIn, contentOf}
 use Rattle.sheet.specs.inner.Passed.{Passed, none, more, rowAt, Accepts, Refuses}
 use Rattle.sheet.proofs.Passing.{passed-within}
 
@@ -92,3 +92,20 @@ kept s l e =
     ⊎-elim (λ f. by-reading s l (reading s) refl e f)
     (λ f. let q = refused-first s f in let z : _≡_ {A = ℕ} 0 1 = cc in absurd (omega arith))
     (first-number s)
+
+-- what the reader's answer says of the reading
+by-outcome : (s : List ℕ) (l : Layout) (r : Reading) → reading s ≡ r → outcome r ≡ Accepted l → r ≡ holds (contentIn r)
+by-outcome s l (holds c) e o = refl
+by-outcome s l (fails n p) e o = let z : _≡_ {A = ℕ} 0 1 = cc in absurd (omega arith)
+
+pub accepted-holds : (s : List ℕ) (l : Layout) → readSheet s ≡ Accepted l → reading s ≡ holds (contentOf s)
+unfolding readSheet contentOf
+accepted-holds s l e = by-outcome s l (reading s) refl e
+
+by-refusal : (number at : ℕ) (r : Reading) → outcome r ≡ Refused number at → r ≡ fails number at
+by-refusal number at (holds c) o = let z : _≡_ {A = ℕ} 0 1 = cc in absurd (omega arith)
+by-refusal number at (fails n p) o = let n-is : n ≡ number = cc in let p-is : p ≡ at = cc in rw (n-is, p-is)
+
+pub refused-fails : (s : List ℕ) (number at : ℕ) → readSheet s ≡ Refused number at → reading s ≡ fails number at
+unfolding readSheet
+refused-fails s number at e = by-refusal number at (reading s) e

@@ -7,7 +7,7 @@ use native.Mathlib.Omega.{arith}
 use lib.Dec.{eqb}
 use lib.ListN.{length, getD}
 use borrow.Author.Tests.{eqb-true}
-use Rattle.rows.proofs.NoneMet.{both}
+use Rattle.rows.proofs.NotMet.{both}
 use Rattle.records.specs.declared.Factor.{Factor}
 use Rattle.records.specs.Content.{noFactor, bears, factorFor}
 use Rattle.due_factors.specs.declared.Counts.{Counts}

@@ -9,7 +9,7 @@ use lib.ListN.{length, take, drop, getD, length-append, List·getD-append}
 use lib.Seq.{take-append-le, take-append-seam, getD-append-seam}
 use borrow.Author.Tests.{eqb-true, eqb-false}
 use Rattle.fields.specs.Fields.{byteAt}
-use Rattle.fields.proofs.Laws.{below-or}
+use Rattle.integers.proofs.Cases.{below-or}
 use Rattle.names.specs.Names.{seenBefore}
 use Rattle.records.specs.declared.Head.{Head}
 use Rattle.records.specs.declared.Zone.{Zone}

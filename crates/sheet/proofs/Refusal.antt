@@ -8,7 +8,7 @@ use native.Mathlib.Omega.{arith}
 use lib.ListN.{length, drop, length-drop}
 use borrow.Author.Tests.{lt-ltb, le-ltb}
 use Rattle.fields.specs.Fields.{byteAt}
-use Rattle.fields.proofs.Laws.{below-or}
+use Rattle.integers.proofs.Cases.{below-or}
 use Rattle.rows.specs.Rows.{row}
 use Rattle.records.specs.Table.{bodyLength}
 use Rattle.records.specs.Content.{Content}

@@ -2,6 +2,7 @@
 use Prim.Native.Nat.{_≤_}
 use lib.IntN.{ℤ, natAbs, _-ℤ_}
 use Rattle.records.specs.declared.Head.{Head}
+use Rattle.records.specs.Codes.{nyiso, pjm}
 use Rattle.record_rows.specs.inner.Valid.{HeadFits}
 use Rattle.figures.specs.Payment.{inWatts, price, amountOf, payment}
 use Rattle.payment.specs.declared.Payment.{Payment}
@@ -11,8 +12,8 @@ paymentOf h flow entitlement = record {
   entitlement = inWatts entitlement;
   price = price h (flow -ℤ inWatts entitlement);
   amount = amountOf h (flow -ℤ inWatts entitlement);
-  nyiso = payment h (amountOf h (flow -ℤ inWatts entitlement)) 1;
-  pjm = payment h (amountOf h (flow -ℤ inWatts entitlement)) 2;
+  nyiso = payment h (amountOf h (flow -ℤ inWatts entitlement)) nyiso;
+  pjm = payment h (amountOf h (flow -ℤ inWatts entitlement)) pjm;
 }
 
 -- what rows 9, 14 and 22 leave

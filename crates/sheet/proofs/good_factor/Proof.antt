@@ -5,7 +5,7 @@ use native.Mathlib.Omega.{arith}
 use borrow.Author.Tests.{eqb-true, not-true}
 use denote.Ref.{now}
 use Rattle.fields.specs.Fields.{byteAt}
-use Rattle.rows.proofs.NoneMet.{both}
+use Rattle.rows.proofs.NotMet.{both}
 use Rattle.sheet.proofs.good_factor.Statement.{statement}
 use mir.Facts.{toZ-ofZ}
 use mir.Syntax.{w16}

@@ -1,7 +1,7 @@
 -- `most_of` meets its contract.
 use mathlib.Core.Path.{_≡_, refl, sym, ap}
 use borrow.Author.Needs.{needs}
-use Rattle.fields.proofs.Laws.{equal-or}
+use Rattle.integers.proofs.Cases.{equal-or}
 use Rattle.records.specs.Table.{KindRow, noKind, kindRows, kindOf}
 use Rattle.records.proofs.ByKind.{another}
 use Rattle.records.proofs.bodies.most_of.Statement.{statement}

@@ -1,0 +1,154 @@
+"""The verbs of m2m and how they are called. A new verb is a row of VERBS and its words in help.txt."""
+
+import getopt
+import os
+import sys
+from typing import Callable, NamedTuple
+
+from .cases import case_files, case_lines
+from .files import read_file, read_input
+from .forms import show
+from .looks import check, show_file
+from .manual import manual
+from .records import LIST, SHEET
+from .settle import settle
+from .text import Text
+from .trouble import Trouble
+
+HELP = os.path.join(os.path.dirname(os.path.abspath(__file__)), "help.txt")
+
+
+class Call(NamedTuple):
+    """The arguments of a verb, its options, and where it prints."""
+
+    arguments: list
+    options: dict
+    output: object
+
+
+class Verb(NamedTuple):
+    """What a verb does; how many arguments it takes at least and at most; its options."""
+
+    run: Callable
+    least: int
+    most: int
+    options: tuple = ()
+
+
+def warn(line):
+    if sys.stderr is not None:
+        print(f"m2m: {line}", file=sys.stderr, flush=True)
+
+
+def run_settle(call):
+    return settle(call.arguments, call.options, call.output, warn)
+
+
+def run_check(call):
+    return check(call.arguments, call.output)
+
+
+def run_show(call):
+    return show_file(call.arguments[0], call.output)
+
+
+def run_text(call):
+    job, *paths = call.arguments
+    if job not in TEXT_JOBS or bool(paths) != (job == "cases"):
+        raise Trouble(f"'text' wants one of {', '.join(TEXT_JOBS)}; 'cases' alone takes paths")
+    for part in TEXT_JOBS[job](paths):
+        call.output.write(part)
+    return 0
+
+
+def to_bytes(paths):
+    yield Text().read(read_input()).data()
+
+
+def cases(paths):
+    for path in case_files(paths):
+        for line in case_lines(path):
+            yield os.fsencode(line + "\n")
+
+
+TEXT_JOBS = {
+    "sheet": to_bytes,
+    "entitlements": to_bytes,
+    "show-sheet": lambda paths: [show(read_input(), SHEET).encode("ascii")],
+    "show-entitlements": lambda paths: [show(read_input(), LIST).encode("ascii")],
+    "cases": cases,
+}
+
+
+def run_help(call):
+    call.output.write(read_file(HELP))
+    return 0
+
+
+def run_manual(call):
+    call.output.write(manual(read_file(HELP).decode("utf-8")).encode("utf-8"))
+    return 0
+
+
+SEE = "'m2m --help' tells all"
+ANY = 1 << 62
+VERBS = {
+    "settle": Verb(run_settle, 1, ANY, ("words", "json", "csv", "list=")),
+    "check": Verb(run_check, 1, ANY),
+    "show": Verb(run_show, 1, 1),
+    "text": Verb(run_text, 1, ANY),
+    "help": Verb(run_help, 0, ANY),
+    "manual": Verb(run_manual, 0, 0),
+}
+
+
+def call_verb(arguments, output):
+    """Runs what the arguments ask for; the status."""
+    word, *rest = arguments or [""]
+    word = "help" if word in ("-h", "--help") else word
+    if word not in VERBS:
+        said = f"'{word}' is no verb" if word else "a verb is wanted"
+        raise Trouble(f"{said}: there are {', '.join(VERBS)}; {SEE}")
+    verb = VERBS[word]
+    try:
+        options, rest = getopt.gnu_getopt(rest, "h", ["help", *verb.options])
+    except getopt.GetoptError as error:
+        raise Trouble(f"{word}: {error.msg}; {SEE}") from None
+    if any(option in ("-h", "--help") for option, _ in options):
+        verb, rest = VERBS["help"], []
+    if not verb.least <= len(rest) <= verb.most:
+        count = "more" if len(rest) < verb.least else "fewer"
+        raise Trouble(f"{word}: {count} arguments are wanted; {SEE}")
+    return verb.run(Call(rest, dict(options), output))
+
+
+def main(arguments):
+    """The whole run: its status, and no traceback whatever happens to the input or the output."""
+    output = sys.stdout.buffer if sys.stdout is not None else None
+    try:
+        if output is None:
+            raise Trouble("standard output is closed")
+        status = call_verb(arguments, output)
+        output.flush()
+        return status
+    except Trouble as trouble:
+        status, said = 2, str(trouble)
+    except BrokenPipeError:
+        status, said = 2, ""
+    except OSError as error:
+        status, said = 2, f"can't write: {error.strerror}"
+    except KeyboardInterrupt:
+        status, said = 130, ""
+    if said:
+        warn(said)
+    abandon(output)
+    return status
+
+
+def abandon(output):
+    """Prints what is still to be printed; where that fails nothing more is tried at the end."""
+    try:
+        if output is not None:
+            output.flush()
+    except OSError:
+        os.dup2(os.open(os.devnull, os.O_WRONLY), output.fileno())

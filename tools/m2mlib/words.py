@@ -1,0 +1,72 @@
+"""Answers in words: names as text, figures in everyday units, and which record a refusal means."""
+
+from collections import Counter
+
+from .lines import name_word
+from .records import BY_NUMBER, SHEET, split, whole_kind
+from .refusals import refusals
+
+
+def name_text(name):
+    """A name as text where it is printable, else as the text form quotes it."""
+    plain = name.rstrip(b"\0")
+    try:
+        text = plain.decode("utf-8")
+    except UnicodeDecodeError:
+        return name_word(name)
+    return text if text.isprintable() and text.strip() else name_word(name)
+
+
+def everyday(value, figure):
+    """A figure in its everyday unit, exactly: the point moved, nothing rounded."""
+    whole, part = divmod(abs(value), 10**figure.digits)
+    sign = "-" if value < 0 else ""
+    return f"{sign}{whole}.{part:0{figure.digits}} {figure.everyday}"
+
+
+def record_at(data, place, kinds=SHEET):
+    """The record that begins at this place: its kind, number within its kind, and name."""
+    counts, at = Counter(), 0
+    for piece in split(data, kinds):
+        counts[piece[0]] += 1
+        if at == place:
+            return record_words(piece, counts[piece[0]], kinds)
+        at += len(piece)
+    return "the end"
+
+
+def record_words(piece, number, kinds):
+    """A record's kind, number and name in words."""
+    if piece[0] not in kinds:
+        return f"a byte 0x{piece[0]:02x} where a record should begin"
+    kind = BY_NUMBER[piece[0]]
+    words = kind.word if kind.most == 1 else f"{kind.word} {number}"
+    if not whole_kind(piece):
+        return f"{words}, of which {len(piece)} of {kind.length} bytes are there"
+    return f"{words}, {name_text(piece[1:17])}" if kind.named else words
+
+
+def line_at(text, place):
+    """The line of the text that the record at this place comes from."""
+    at = 0
+    for piece in text.pieces:
+        if at == place:
+            return piece.line
+        at += len(piece.data)
+    return None
+
+
+def refusal_words(number, sheet, place, entitlements):
+    """A refusal's lines: what it is, where, what it means and how it is mended."""
+    refusal = refusals()[number]
+    lines = [("", f"refused {number}: {refusal.title}")]
+    if place is not None:
+        lines.append(("where", f"byte {place} of the sheet: {record_at(sheet.data, place)}"))
+        line = line_at(sheet.text, place) if sheet.text else None
+        if line:
+            lines.append(("line", f"{line.where}: {line.text.strip()}"))
+    lines += [("meaning", refusal.meaning), ("mend", refusal.mend)]
+    for given in (sheet, entitlements):
+        if number <= 14 and given.path and (number == 14) == (given is entitlements):
+            lines.append(("", f"'m2m check {given.path}' tells every fault of it"))
+    return lines
