@@ -7,7 +7,7 @@ use lib.ListN.{length, replicate, length-replicate}
 use Rattle.due_factors.proofs.Tab.{below-or}
 use Rattle.records.specs.Bodies.{byKind}
 use Rattle.name_index.specs.inner.Index.{Indexed, longer}
-use Rattle.name_index.proofs.Laws.{none-indexed, begun-indexed}
+use Rattle.name_index.proofs.Table.{none-indexed, begun-indexed}
 use Rattle.layout.specs.declared.Layout.{Layout}
 use Rattle.layout.specs.Layout.{count, counted, noRecords, size, firstOf}
 use Rattle.layout.specs.Listed.{named, mask, tableSize, runOf, Listed}

@@ -15,7 +15,7 @@ use Rattle.rows.proofs.NotMet.{neither}
 use Rattle.entitlements.specs.Entitlements.{Entry, bodyLength, recordLength, entryOf, recordFault, anyFault, row14, entriesFrom, entriesOf, lookUp}
 use Rattle.entitlements.specs.inner.Steps.{firstNames}
 use Rattle.entitlements.specs.declared.Entitlement.the-variants.{Found, Refused}
-use Rattle.entitlements.proofs.Records.{Kept, passes}
+use Rattle.entitlements.proofs.RecordFault.{Kept, passes}
 
 fault-skip : (es : List (List ℕ)) (n : ℕ) (l : List ℕ) → anyFault es n l ≡ anyFault es 0 (drop n l)
 unfolding anyFault

@@ -10,7 +10,7 @@ use borrow.Author.Tests.{eq-eqb, ne-eqb}
 use lib.Bits.{and-le-r}
 use lib.ListN.{length, getD, set, replicate, length-set, length-replicate}
 use lib.Seq.{getD-set-same, getD-set-other}
-use Rattle.fields.specs.Fields.{be64}
+use Rattle.fields.specs.inner.Word.{be64}
 use Rattle.integers.proofs.Cases.{equal-or}
 use Rattle.names.specs.Names.{nameAt, sameList, seenBefore}
 use Rattle.names.proofs.SameNames.{same-words}
