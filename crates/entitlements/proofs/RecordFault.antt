@@ -1,6 +1,6 @@
 -- Row 14 on one record: what it leaves of a record that passes, and the conditions as the code tests them.
 use Prim.Native.Nat.{ℕ, _≤_, _<_}
-use mathlib.Core.Path.{_≡_, refl, _∙_}
+use mathlib.Core.Path.{_≡_, refl}
 use mathlib.Core.Bool.{Bool, true, false, not, _||_, or-assoc, or-false, or-true}
 use mathlib.Core.List.{List}
 use native.Mathlib.Omega.{arith}
@@ -12,7 +12,7 @@ use lib.Seq.{length-take-le}
 use Rattle.names.specs.Names.{badName, nameOk, seenBefore}
 use Rattle.rows.specs.Rows.{beyond}
 use Rattle.rows.proofs.NotMet.{neither}
-use Rattle.entitlements.specs.Entitlements.{Entry, entryKind, bodyLength, recordLength, mostRecords, mostValue, entryOf, recordFault}
+use Rattle.entitlements.specs.Entitlements.{Entry, entryKind, bodyLength, mostRecords, mostValue, entryOf, recordFault}
 
 -- an entry that passes behind the entries es
 pub record Kept (es : List (List ℕ)) (e : Entry) : Type 0 where
