@@ -14,7 +14,7 @@ use Rattle.records.specs.Valid.{Valid}
 use Rattle.entitlements.specs.declared.Entitlement.the-variants as found
 use Rattle.entitlements.specs.Entitlements.{row14, entriesOf, lookUp, entitlement}
 use Rattle.entitlements.proofs.Answers.{value-within}
-use Rattle.entitlements.proofs.Walk.{look-other-length}
+use Rattle.entitlements.proofs.ByRecord.{look-other-length}
 use Rattle.figures.specs.Balance.{balanceRow}
 use Rattle.figures.specs.Flow.{marketFlow, flowRow}
 use Rattle.figures.specs.Payment.{inWatts, difference, amount}
