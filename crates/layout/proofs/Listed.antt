@@ -6,7 +6,7 @@ use native.Mathlib.Omega.{arith}
 use lib.ListN.{length, replicate, length-replicate}
 use Rattle.integers.proofs.Cases.{below-or}
 use Rattle.name_index.specs.inner.Index.{Indexed, longer}
-use Rattle.name_index.proofs.Laws.{none-indexed, begun-indexed}
+use Rattle.name_index.proofs.Table.{none-indexed, begun-indexed}
 use Rattle.layout.specs.declared.Layout.{Layout}
 use Rattle.layout.specs.inner.Places.{count, counted, noRecords, firstOf}
 use Rattle.layout.specs.inner.Listed.{named, tableSize, runOf, Listed}

@@ -5,7 +5,7 @@ use native.Mathlib.Omega.{arith}
 use borrow.Author.Needs.{needs}
 use denote.Ref.{now}
 use lib.ListN.{length}
-use Rattle.name_index.proofs.Laws.{next-indexed}
+use Rattle.name_index.proofs.Table.{next-indexed}
 use Rattle.layout.specs.inner.Places.{firstOf}
 use Rattle.layout.specs.inner.Listed.{tableSize, runOf}
 use Rattle.layout.proofs.Names.{named-room, repeated-at}
