@@ -20,7 +20,7 @@ use Rattle.quotient.proofs.Laws.{whole}
 use Rattle.records.specs.declared.Head.{Head}
 use Rattle.records.specs.Codes.{common, noncommon}
 use Rattle.records.specs.Content.{Content, head, par}
-use Rattle.records.specs.Valid.{Valid}
+use Rattle.record_rows.specs.inner.Valid.{Valid}
 use Rattle.figures.specs.Balance.{netLoad, netGeneration, finalGeneration, grossOutput, balanceRow}
 use Rattle.figures.specs.Flow.{weightedOutput, weightedLoad, firstDividend, loadShare, firstRemainder, grossFlow, secondDividend, generationToLoad, secondRemainder, parallel, shadow, parFactor, control, carriedTerm, carriedSum, carried, redirect, nyisoMonitors, nonCommonRedirect, marketFlow}
 use Rattle.figures.specs.Payment.{inWatts, difference, amountOf, amount}

@@ -10,7 +10,7 @@ use lib.Signed.{_<ℤ_}
 use Rattle.records.specs.declared.Place.the-variants.{Proxy}
 use Rattle.records.specs.Codes.{pjm, common, noncommon}
 use Rattle.records.specs.Content.{Content, head}
-use Rattle.records.specs.Valid.{Valid}
+use Rattle.record_rows.specs.inner.Valid.{Valid}
 use Rattle.figures.specs.Balance.{balanceRow}
 use Rattle.figures.specs.Flow.{marketFlow}
 use Rattle.figures.specs.Payment.{difference, price, amount}

@@ -14,7 +14,7 @@ use Rattle.rows.proofs.NotMet.{row-pass}
 use Rattle.records.specs.declared.Head.{Head}
 use Rattle.records.specs.Codes.{nyiso, pjm}
 use Rattle.records.specs.Content.{Content, head}
-use Rattle.records.specs.Valid.{Valid, HeadFits}
+use Rattle.record_rows.specs.inner.Valid.{Valid, HeadFits}
 use Rattle.figures.specs.Flow.{marketFlow, mostFlow, flowRow}
 use Rattle.figures.specs.Payment.{inWatts, difference, price, amountOf, amount, payment}
 use Rattle.figures.specs.inner.Most.{mostDifference, mostAmount}

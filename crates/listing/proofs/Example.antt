@@ -5,7 +5,8 @@ use lib.IntN.{pos, negsuc}
 use Rattle.statement.specs.declared.Statement.{Statement}
 use Rattle.writers.specs.Text.{ascii, digits, decimal, unfilled, hexadecimal}
 use Rattle.writers.proofs.Decimal.{natural-computed}
-use Rattle.listing.specs.Listing.{line, listing}
+use Rattle.lines.specs.Lines.{joined, figure, line, flowgateLine, gtlLine, flowLines, paymentLines}
+use Rattle.listing.specs.Listing.{listing}
 
 unfoldable pub statementS : Statement
 statementS =
@@ -40,7 +41,7 @@ pub listing-S : listing statementS ≡
     ++ ascii "amount 1328125\n"
     ++ ascii "NYISO -1328125\n"
     ++ ascii "PJM 1328125\n"
-unfolding ascii digits decimal unfilled hexadecimal line listing statementS
+unfolding ascii digits decimal unfilled hexadecimal joined figure line flowgateLine gtlLine flowLines paymentLines listing statementS
 listing-S =
     simp (
       natural-computed 12600000 tt,

@@ -1,4 +1,3 @@
-pub mod Parts
 pub mod Printing
 pub mod Example
 pub mod Longest

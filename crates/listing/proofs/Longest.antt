@@ -1,17 +1,17 @@
 -- The listing of a settled statement has at most 288 bytes.
 use mathlib.Core.Path.{_≡_, ap}
-use mathlib.Core.List.{List, [], _∷_}
+use mathlib.Core.List.{List}
 use Prim.Native.Nat.{ℕ, zero, suc, _+_, _*_, _≤_, _<_, _^_}
-use native.Mathlib.Decide.{decLt}
 use native.Mathlib.Omega.{arith}
-use borrow.Author.Tests.{eq-eqb, ne-eqb}
 use lib.IntN.{ℤ, pos, negsuc, natAbs, negℤ}
 use lib.ListN.{length, length-append}
 use lib.Signed.{_≤ℤ_}
 use Rattle.statement.specs.declared.Statement.{Statement}
 use Rattle.writers.specs.Text.{ascii, decimal, unfilled, hexadecimal}
 use Rattle.writers.proofs.Decimal.{natural-length}
-use Rattle.listing.specs.Listing.{line, listing, checked}
+use Rattle.writers.proofs.Names.{hexadecimal-length, unfilled-length}
+use Rattle.lines.specs.Lines.{joined, figure, line, flowgateLine, gtlLine, flowLines, paymentLines}
+use Rattle.listing.specs.Listing.{listing, checked}
 use Rattle.listing.specs.Ranges.{Ranged}
 use Rattle.listing.proofs.Printing.{kept}
 
@@ -34,41 +34,55 @@ opposite-length k (pos (suc n)) h = omega (arith, natural-length k (suc n) h)
 opposite-length k (negsuc n) h = omega (arith, natural-length k (suc n) h)
 
 name-length : (bs : List ℕ) → length (hexadecimal (unfilled bs)) ≤ 2 * length bs
-unfolding unfilled hexadecimal
-name-length [] = omega arith
-name-length (b ∷ bs) =
-    elim (decLt b 1) [
-      | yes none ↦ rw (eq-eqb b 0 (omega arith)) (omega arith)
-      | no some ↦ rw (ne-eqb b 0 (λ e. omega arith)) (omega (arith, name-length bs))
-    ]
+name-length bs = omega (arith, hexadecimal-length (unfilled bs), unfilled-length bs)
+
+figure-length : (label : List ℕ) (z : ℤ) → length (figure label z) ≡ length label + length (decimal z)
+unfolding figure
+figure-length label z = simp length-append
 
 line-length : (label : List ℕ) (z : ℤ) → length (line label z) ≡ length label + length (decimal z) + 1
 unfolding line ascii
-line-length label z = simp length-append
+line-length label z = simp (length-append, figure-length)
+
+-- the labels' bytes with their line feeds, and the figures'
+flowgate-length : (bs : List ℕ) → length (flowgateLine bs) ≡ 10 + length (hexadecimal (unfilled bs))
+unfolding flowgateLine ascii
+flowgate-length bs = simp length-append (omega arith)
+
+gtl-length : (a b c : ℤ) → length (gtlLine a b c) ≡ 7 + length (decimal a) + length (decimal b) + length (decimal c)
+unfolding gtlLine joined ascii
+gtl-length a b c = simp (length-append, figure-length, line-length) (omega arith)
+
+module _ (a b c d e : ℤ) where
+  abbrev five : ℕ
+  five = length (decimal a) + length (decimal b) + length (decimal c) + length (decimal d) + length (decimal e)
+
+  flows-length : length (flowLines a b c d e) ≡ 45 + five
+  unfolding flowLines joined ascii
+  flows-length = simp (length-append, line-length) (omega arith)
+
+  payment-length : length (paymentLines a b c d e) ≡ 40 + five
+  unfolding paymentLines joined ascii
+  payment-length = simp (length-append, line-length) (omega arith)
 
 module _ (s : Statement) where
   lengths : length (listing s) ≡
-      length (ascii "flowgate ") + length (hexadecimal (unfilled (s .name))) + length (ascii "\n")
-      + length (ascii "gtl ") + length (decimal (s .gtl)) + length (ascii " ") + length (decimal (s .«first_remainder»)) + length (ascii " ") + length (decimal (s .«second_remainder»)) + length (ascii "\n")
-      + (length (ascii "parallel ") + length (decimal (s .parallel)) + 1)
-      + (length (ascii "shadow ") + length (decimal (s .shadow)) + 1)
-      + (length (ascii "common ") + length (decimal (s .common)) + 1)
-      + (length (ascii "noncommon ") + length (decimal (s .noncommon)) + 1)
-      + (length (ascii "market ") + length (decimal (s .market)) + 1)
-      + (length (ascii "entitlement ") + length (decimal (s .entitlement)) + 1)
-      + (length (ascii "price ") + length (decimal (s .price)) + 1)
-      + (length (ascii "amount ") + length (decimal (s .amount)) + 1)
-      + (length (ascii "NYISO ") + length (decimal (s .nyiso)) + 1)
-      + (length (ascii "PJM ") + length (decimal (s .pjm)) + 1)
-  unfolding listing
-  lengths = simp (length-append, line-length)
+      length (flowgateLine (s .name))
+      + length (gtlLine (s .gtl) (s .«first_remainder») (s .«second_remainder»))
+      + length (flowLines (s .parallel) (s .shadow) (s .common) (s .noncommon) (s .market))
+      + length (paymentLines (s .entitlement) (s .price) (s .amount) (s .nyiso) (s .pjm))
+  unfolding listing joined
+  lengths = simp length-append (omega arith)
 
   pub longest : Ranged s → length (listing s) ≤ 288
-  unfolding ascii
   longest h =
       omega (
         arith,
         lengths,
+        flowgate-length (s .name),
+        gtl-length (s .gtl) (s .«first_remainder») (s .«second_remainder»),
+        flows-length (s .parallel) (s .shadow) (s .common) (s .noncommon) (s .market),
+        payment-length (s .entitlement) (s .price) (s .amount) (s .nyiso) (s .pjm),
         name-length (s .name),
         h .name,
         decimal-length 11 (s .gtl) (h .gtl),

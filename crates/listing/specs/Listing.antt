@@ -1,39 +1,25 @@
 -- The printed statement (document 01, 'The printed statement' and row 23).
 use mathlib.Core.Bool.{cond, _&&_}
-use mathlib.Core.List.{List, [], _++_}
+use mathlib.Core.List.{List, [], _∷_}
 use Prim.Native.Nat.{ℕ}
 use lib.Dec.{eqb, ltb}
-use lib.IntN.{ℤ, pos}
 use lib.ListN.{length}
 use Rattle.statement.specs.declared.Statement.{Statement}
 use Rattle.statement.specs.Statement.{refusedAs}
-use Rattle.writers.specs.Text.{ascii, decimal, unfilled, hexadecimal}
 use Rattle.writers.specs.Written.{written}
+use Rattle.lines.specs.Lines.{joined, flowgateLine, gtlLine, flowLines, paymentLines, refusalLine}
 use Rattle.listing.specs.declared.Printed.{Printed}
-
--- a label and a number, ended by one line feed
-unfoldable pub line : List ℕ → ℤ → List ℕ
-line label z = label ++ decimal z ++ ascii "\n"
 
 -- the twelve lines of an accepted statement
 unfoldable pub listing : Statement → List ℕ
 listing s =
-    ascii "flowgate " ++ hexadecimal (unfilled (s .name)) ++ ascii "\n"
-    ++ ascii "gtl " ++ decimal (s .gtl) ++ ascii " " ++ decimal (s .«first_remainder») ++ ascii " " ++ decimal (s .«second_remainder») ++ ascii "\n"
-    ++ line (ascii "parallel ") (s .parallel)
-    ++ line (ascii "shadow ") (s .shadow)
-    ++ line (ascii "common ") (s .common)
-    ++ line (ascii "noncommon ") (s .noncommon)
-    ++ line (ascii "market ") (s .market)
-    ++ line (ascii "entitlement ") (s .entitlement)
-    ++ line (ascii "price ") (s .price)
-    ++ line (ascii "amount ") (s .amount)
-    ++ line (ascii "NYISO ") (s .nyiso)
-    ++ line (ascii "PJM ") (s .pjm)
-
--- the one line of a refusal
-unfoldable pub refusalLine : ℕ → List ℕ
-refusalLine n = line (ascii "refused ") (pos n)
+    joined (
+    flowgateLine (s .name)
+    ∷ gtlLine (s .gtl) (s .«first_remainder») (s .«second_remainder»)
+    ∷ flowLines (s .parallel) (s .shadow) (s .common) (s .noncommon) (s .market)
+    ∷ paymentLines (s .entitlement) (s .price) (s .amount) (s .nyiso) (s .pjm)
+    ∷ []
+    )
 
 -- what the program prints of a statement: the listing of an accepted one, the one line of a refused one
 unfoldable pub shown : Statement → List ℕ
