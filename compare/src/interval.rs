@@ -4,30 +4,38 @@
 use std::collections::HashSet;
 
 use second::draft;
-use second::names::Name;
+use second::layout::{
+    FACTORS, LOADS, MOST_PARS, MOST_POINTS, MOST_UNITS, MOST_ZONES, PRICES, SCHEDULES,
+};
+use second::names::NameField;
 
 use crate::chance::Chance;
 
-const LARGEST_SUM: i64 = 2_000_000;
-const LARGEST_SCHEDULE: i64 = 200_000;
+#[derive(Clone)]
+pub struct Head {
+    pub name: NameField,
+    pub monitoring: u8,
+    pub seconds: u16,
+    pub prices: [u32; 2],
+}
 
 #[derive(Clone)]
 pub struct Zone {
-    pub name: Name,
+    pub name: NameField,
     pub load: u32,
     pub losses: u32,
 }
 
 #[derive(Clone)]
 pub struct Unit {
-    pub name: Name,
+    pub name: NameField,
     pub zone: u8,
     pub output: u32,
 }
 
 #[derive(Clone)]
 pub struct Point {
-    pub name: Name,
+    pub name: NameField,
     pub class: u8,
     pub place: u8,
     pub import: u32,
@@ -36,10 +44,53 @@ pub struct Point {
 
 #[derive(Clone)]
 pub struct Par {
-    pub name: Name,
+    pub name: NameField,
     pub class: u8,
     pub actual: i32,
     pub target: i32,
+}
+
+#[derive(Clone)]
+pub struct Factor {
+    pub target: u8,
+    pub subject: u8,
+    pub index: u16,
+    pub value: i16,
+}
+
+/// A record of a sheet, field by field, sound or faulty.
+#[derive(Clone)]
+pub enum Record {
+    Head(Head),
+    Zone(Zone),
+    Unit(Unit),
+    Point(Point),
+    Par(Par),
+    Factor(Factor),
+}
+
+impl Record {
+    pub fn bytes(&self) -> Vec<u8> {
+        match self {
+            Record::Head(it) => draft::head(it.name, it.monitoring, it.seconds, it.prices),
+            Record::Zone(it) => draft::zone(it.name, it.load, it.losses),
+            Record::Unit(it) => draft::unit(it.name, it.zone, it.output),
+            Record::Point(it) => draft::point(it.name, it.class, it.place, it.import, it.export),
+            Record::Par(it) => draft::par(it.name, it.class, it.actual, it.target),
+            Record::Factor(it) => draft::factor(it.target, it.subject, it.index, it.value),
+        }
+    }
+
+    pub fn name_mut(&mut self) -> Option<&mut NameField> {
+        match self {
+            Record::Head(it) => Some(&mut it.name),
+            Record::Zone(it) => Some(&mut it.name),
+            Record::Unit(it) => Some(&mut it.name),
+            Record::Point(it) => Some(&mut it.name),
+            Record::Par(it) => Some(&mut it.name),
+            Record::Factor(_) => None,
+        }
+    }
 }
 
 /// The factors of one target.
@@ -65,14 +116,18 @@ impl Factors {
         } = self;
         [units, zones, points, pars]
     }
+
+    /// Sets all factors to zero.
+    pub fn clear(&mut self) {
+        for values in self.by_subject_mut() {
+            values.fill(0);
+        }
+    }
 }
 
 #[derive(Clone)]
 pub struct Interval {
-    pub name: Name,
-    pub monitoring: u8,
-    pub seconds: u16,
-    pub prices: [u32; 2],
+    pub head: Head,
     pub zones: Vec<Zone>,
     pub units: Vec<Unit>,
     pub points: Vec<Point>,
@@ -82,37 +137,47 @@ pub struct Interval {
 }
 
 impl Interval {
-    pub fn records(&self) -> Vec<Vec<u8>> {
-        let mut records = vec![draft::head(
-            self.name,
-            self.monitoring,
-            self.seconds,
-            self.prices,
-        )];
-        for zone in &self.zones {
-            records.push(draft::zone(zone.name, zone.load, zone.losses));
-        }
-        for unit in &self.units {
-            records.push(draft::unit(unit.name, unit.zone, unit.output));
-        }
-        for p in &self.points {
-            records.push(draft::point(p.name, p.class, p.place, p.import, p.export));
-        }
-        for par in &self.pars {
-            records.push(draft::par(par.name, par.class, par.actual, par.target));
-        }
+    pub fn content(&self) -> Vec<Record> {
+        let mut records = vec![Record::Head(self.head.clone())];
+        records.extend(self.zones.iter().cloned().map(Record::Zone));
+        records.extend(self.units.iter().cloned().map(Record::Unit));
+        records.extend(self.points.iter().cloned().map(Record::Point));
+        records.extend(self.pars.iter().cloned().map(Record::Par));
         for (target, factors) in (0..).zip([&self.flowgate].into_iter().chain(&self.on_pars)) {
             for (subject, values) in (1..).zip(factors.by_subject()) {
                 for (index, value) in (1..).zip(values) {
-                    records.push(draft::factor(target, subject, index, *value));
+                    records.push(Record::Factor(Factor {
+                        target,
+                        subject,
+                        index,
+                        value: *value,
+                    }));
                 }
             }
         }
         records
     }
 
+    pub fn records(&self) -> Vec<Vec<u8>> {
+        self.content().iter().map(Record::bytes).collect()
+    }
+
+    /// Adds a unit without output and with factors of zero; its index.
+    pub fn add_unit(&mut self, name: NameField, zone: u8) -> usize {
+        self.units.push(Unit {
+            name,
+            zone,
+            output: 0,
+        });
+        self.flowgate.units.push(0);
+        for factors in &mut self.on_pars {
+            factors.units.push(0);
+        }
+        self.units.len() - 1
+    }
+
     /// Adds a proxy without schedules and with factors of zero; its index.
-    pub fn add_point(&mut self, name: Name) -> usize {
+    pub fn add_point(&mut self, name: NameField) -> usize {
         self.points.push(Point {
             name,
             class: 1,
@@ -128,7 +193,7 @@ impl Interval {
     }
 
     /// Adds a PAR on its target and with factors of zero; its index.
-    pub fn add_par(&mut self, name: Name) -> usize {
+    pub fn add_par(&mut self, name: NameField) -> usize {
         self.pars.push(Par {
             name,
             class: 1,
@@ -146,7 +211,7 @@ impl Interval {
     }
 
     /// Gives the k-th zone, unit, point and PAR the k-th name, from 0.
-    pub fn rename(&mut self, name: impl Fn(usize) -> Name) {
+    pub fn rename(&mut self, name: impl Fn(usize) -> NameField) {
         let zones = self.zones.iter_mut().map(|zone| &mut zone.name);
         zones.enumerate().for_each(|(k, to)| *to = name(k));
         let units = self.units.iter_mut().map(|unit| &mut unit.name);
@@ -176,21 +241,22 @@ pub struct Sizes {
 
 impl Sizes {
     pub const LONGEST: Sizes = Sizes {
-        zones: 32,
-        units: 256,
-        points: 32,
-        pars: 8,
+        zones: MOST_ZONES,
+        units: MOST_UNITS,
+        points: MOST_POINTS,
+        pars: MOST_PARS,
     };
 
     /// Mostly small ones, now and then up to the longest.
     pub fn drawn(chance: &mut Chance) -> Self {
         let reach = chance.pick(&[2, 3, 4, 4, 8, 8, 16, 32]);
         let mut upto = |most: usize| chance.below(most.min(reach) + 1);
-        let (zones, units, points, pars) = (upto(31), upto(255), upto(32), upto(8));
+        let (zones, units) = (upto(MOST_ZONES - 1), upto(MOST_UNITS - 1));
+        let (points, pars) = (upto(MOST_POINTS), upto(MOST_PARS));
         let units = if reach == 32 { units * 8 } else { units };
         Sizes {
             zones: zones + 1,
-            units: units.min(255) + 1,
+            units: units.min(MOST_UNITS - 1) + 1,
             points,
             pars,
         }
@@ -210,14 +276,14 @@ impl Scale {
         factor: 3,
     };
     pub const FULL: Scale = Scale {
-        power: LARGEST_SUM,
-        factor: 10_000,
+        power: *LOADS.end(),
+        factor: *FACTORS.end(),
     };
 
     pub fn drawn(chance: &mut Chance) -> Self {
         Scale {
-            power: chance.pick(&[12, 200, 5_000, 100_000, LARGEST_SUM]),
-            factor: chance.pick(&[1, 3, 50, 1_000, 10_000]),
+            power: chance.pick(&[12, 200, 5_000, 100_000, *LOADS.end()]),
+            factor: chance.pick(&[1, 3, 50, 1_000, *FACTORS.end()]),
         }
     }
 }
@@ -237,15 +303,11 @@ pub fn value(chance: &mut Chance, largest: i64) -> i64 {
 /// Something within ± the largest, with a liking for both ends and zero.
 pub fn signed_value(chance: &mut Chance, largest: i64) -> i64 {
     let value = value(chance, largest);
-    if chance.one_in(2) {
-        -value
-    } else {
-        value
-    }
+    if chance.one_in(2) { -value } else { value }
 }
 
 /// So many names that differ, in one of several styles.
-pub fn names(chance: &mut Chance, count: usize) -> Vec<Name> {
+pub fn names(chance: &mut Chance, count: usize) -> Vec<NameField> {
     let style = chance.below(5);
     let mut seen = HashSet::new();
     let mut names = Vec::with_capacity(count);
@@ -270,7 +332,7 @@ pub fn names(chance: &mut Chance, count: usize) -> Vec<Name> {
 }
 
 /// A name whose first bytes are alike and whose others are any non-zero ones.
-fn bytes_name(chance: &mut Chance, alike: usize, longest: usize) -> Name {
+fn bytes_name(chance: &mut Chance, alike: usize, longest: usize) -> NameField {
     let shortest = alike.max(2) + 1;
     let length = shortest + chance.below(longest + 1 - shortest);
     let mut name = [0; 16];
@@ -326,7 +388,7 @@ pub fn drawn(chance: &mut Chance, sizes: Sizes, scale: Scale) -> Interval {
         unit.zone = 1 + chance.below(sizes.zones) as u8;
     }
     schedule(chance, &mut interval);
-    let reach = scale.power.min(LARGEST_SCHEDULE);
+    let reach = scale.power.min(*SCHEDULES.end());
     for par in &mut interval.pars {
         par.actual = signed_value(chance, reach) as i32;
         par.target = signed_value(chance, reach) as i32;
@@ -350,10 +412,12 @@ fn frame(chance: &mut Chance, sizes: Sizes) -> Interval {
         output: 0,
     });
     let mut interval = Interval {
-        name: names(chance, 1)[0],
-        monitoring: chance.pick(&[1, 2]),
-        seconds: chance.pick(&[1, 300, 300, 600, 899, 900]),
-        prices: [price(chance), price(chance)],
+        head: Head {
+            name: names(chance, 1)[0],
+            monitoring: chance.pick(&[1, 2]),
+            seconds: chance.pick(&[1, 300, 300, 600, 899, 900]),
+            prices: [price(chance), price(chance)],
+        },
         zones,
         units: units.collect(),
         points: Vec::new(),
@@ -376,8 +440,9 @@ fn frame(chance: &mut Chance, sizes: Sizes) -> Interval {
 
 /// 6000 with 300 s and 2000 with 900 s make ties of odd differences.
 fn price(chance: &mut Chance) -> u32 {
-    let drawn = value(chance, 400_000) as u32;
-    chance.pick(&[6000, 2000, 400_000, 1, drawn, drawn])
+    let dearest = *PRICES.end();
+    let drawn = value(chance, dearest);
+    chance.pick(&[6000, 2000, dearest, 1, drawn, drawn]) as u32
 }
 
 /// Draws imports and exports that leave loads and generation sound.
@@ -406,7 +471,7 @@ fn schedule(chance: &mut Chance, interval: &mut Interval) {
 }
 
 fn take(chance: &mut Chance, rest: &mut i64) -> u32 {
-    let reach = (*rest / chance.pick(&[1, 3, 10])).clamp(0, LARGEST_SCHEDULE);
+    let reach = (*rest / chance.pick(&[1, 3, 10])).clamp(0, *SCHEDULES.end());
     let taken = value(chance, reach);
     *rest -= taken;
     taken as u32
@@ -441,7 +506,7 @@ mod tests {
             let chance = &mut Chance::of(3, input);
             let (sizes, scale) = (Sizes::drawn(chance), Scale::drawn(chance));
             let sheet = drawn(chance, sizes, scale).records().concat();
-            assert!(second::sheet::read(&sheet).is_ok());
+            assert!(second::reader::read(&sheet).is_ok());
         }
     }
 

@@ -1,61 +1,71 @@
-//! How often each refusal, acceptance and each landmark was reached.
+//! How often each thing was met that a run must meet.
 
 use std::fmt;
 
-use second::sheet::Sheet;
-use second::Statement;
+/// Things of one sort, each with its name.
+struct Group {
+    title: &'static str,
+    names: Vec<String>,
+    counts: Vec<u64>,
+    /// Whether each is told, or only how many there are.
+    told: bool,
+}
 
-use crate::faults::REFUSALS;
-use crate::landmarks::{shown, LANDMARKS};
-
-#[derive(Clone, Default)]
+#[derive(Default)]
 pub struct Tally {
-    /// By the refusal's number; 0 is acceptance.
-    seen: [u64; REFUSALS as usize + 1],
-    landmarks: [u64; LANDMARKS.len()],
+    inputs: u64,
+    groups: Vec<Group>,
 }
 
 impl Tally {
-    /// Counts the outcome of one input; 0 is acceptance.
-    pub fn count(&mut self, refusal: u8) {
-        self.seen[usize::from(refusal)] += 1;
+    /// Adds a group; it is spoken of by its place among the groups, from 0.
+    pub fn with(mut self, title: &'static str, names: Vec<String>, told: bool) -> Self {
+        self.groups.push(Group {
+            title,
+            counts: vec![0; names.len()],
+            names,
+            told,
+        });
+        self
     }
 
-    pub fn total(&self) -> u64 {
-        self.seen.iter().sum()
+    /// One more input.
+    pub fn count(&mut self) {
+        self.inputs += 1;
     }
 
-    /// Counts the landmarks of an accepted interval.
-    pub fn mark(&mut self, sheet: &Sheet, statement: &Statement) {
-        for (count, shown) in self.landmarks.iter_mut().zip(shown(sheet, statement)) {
-            *count += u64::from(shown);
-        }
+    pub fn inputs(&self) -> u64 {
+        self.inputs
     }
 
-    /// The refusals, acceptance and the landmarks that were never reached.
+    /// One more of what stands at a place of a group.
+    pub fn mark(&mut self, group: usize, place: usize) {
+        self.groups[group].counts[place] += 1;
+    }
+
+    /// What was never met.
     pub fn missing(&self) -> Vec<String> {
-        let never = |(_, seen): &(usize, &u64)| **seen == 0;
-        let refusals = self.seen.iter().enumerate().filter(never);
-        let landmarks = self.landmarks.iter().enumerate().filter(never);
-        refusals
-            .map(|(number, _)| match number {
-                0 => String::from("accepted"),
-                _ => format!("refused {number}"),
-            })
-            .chain(landmarks.map(|(k, _)| LANDMARKS[k].to_string()))
-            .collect()
+        let mut missing = Vec::new();
+        for Group { names, counts, .. } in &self.groups {
+            let never = names.iter().zip(counts).filter(|(_, count)| **count == 0);
+            missing.extend(never.map(|(name, _)| name.clone()));
+        }
+        missing
     }
 }
 
 impl fmt::Display for Tally {
     fn fmt(&self, f: &mut fmt::Formatter) -> fmt::Result {
-        write!(f, "accepted {}", self.seen[0])?;
-        for (number, seen) in self.seen.iter().enumerate().skip(1) {
-            let parted = if number % 6 == 1 { "\n" } else { "  " };
-            write!(f, "{parted}refused {number:2}: {seen:<8}")?;
-        }
-        for (name, seen) in LANDMARKS.iter().zip(self.landmarks) {
-            write!(f, "\n{seen:8}  {name}")?;
+        write!(f, "{} inputs", self.inputs)?;
+        for group in &self.groups {
+            let (title, all) = (group.title, group.counts.len());
+            let least = group.counts.iter().min().unwrap_or(&0);
+            write!(f, "\n{title}: {all}, each met {least} times or more")?;
+            for (name, count) in group.names.iter().zip(&group.counts) {
+                if group.told {
+                    write!(f, "\n{count:8}  {name}")?;
+                }
+            }
         }
         Ok(())
     }
@@ -66,14 +76,18 @@ mod tests {
     use super::*;
 
     #[test]
-    fn what_was_never_reached_is_told() {
-        let mut tally = Tally::default();
-        (0..=REFUSALS)
-            .filter(|k| *k != 7)
-            .for_each(|k| tally.count(k));
-        assert_eq!(tally.missing()[0], "refused 7");
-        assert_eq!(tally.missing().len(), 1 + LANDMARKS.len());
-        assert_eq!(tally.total(), 23);
-        assert!(tally.to_string().starts_with("accepted 1\nrefused  1: 1 "));
+    fn what_was_never_met_is_told() {
+        let names = |names: [&str; 2]| names.map(String::from).to_vec();
+        let mut tally = Tally::default()
+            .with("answers", names(["accepted", "refused 1"]), true)
+            .with("pairs", names(["1 and 2", "1 and 3"]), false);
+        tally.count();
+        tally.mark(0, 0);
+        tally.mark(1, 0);
+        tally.mark(1, 1);
+        assert_eq!(tally.missing(), ["refused 1"]);
+        let told = tally.to_string();
+        assert!(told.starts_with("1 inputs\nanswers: 2, each met 0 times or more\n"));
+        assert!(told.ends_with("\npairs: 2, each met 1 times or more"));
     }
 }

@@ -1,169 +1,66 @@
-//! Inputs as readable text, in the text form of docs/FORMAT.md.
+//! Inputs as readable text and back, by the one text tool: `m2m text`.
 
-use std::fmt::Write;
+use std::io::Write;
+use std::path::{Path, PathBuf};
+use std::process::{Command, Stdio};
 
-use second::Statement;
-
-use crate::inputs::Input;
-
-fn be(bytes: &[u8]) -> u32 {
-    bytes
-        .iter()
-        .fold(0, |value, byte| (value << 8) | u32::from(*byte))
+/// The folder that holds this package.
+pub fn root() -> PathBuf {
+    let package = Path::new(env!("CARGO_MANIFEST_DIR"));
+    package.parent().unwrap_or(package).to_path_buf()
 }
 
-fn code(value: u8, words: &[&str]) -> String {
-    match usize::from(value).checked_sub(1).and_then(|k| words.get(k)) {
-        Some(word) => word.to_string(),
-        None => value.to_string(),
-    }
-}
-
-/// A name without its filling, bare or in quotes.
-pub fn name(name: &[u8]) -> String {
-    let length = 16 - name.iter().rev().take_while(|byte| **byte == 0).count();
-    let name = &name[..length];
-    let bare = |byte: &u8| byte.is_ascii_alphanumeric() || b"_.-".contains(byte);
-    if length > 0 && name.iter().all(bare) {
-        return String::from_utf8_lossy(name).into_owned();
-    }
-    let mut shown = String::from("\"");
-    for byte in name {
-        match byte {
-            b'"' | b'\\' => shown.extend(['\\', char::from(*byte)]),
-            b'$' | 0..=0x1f | 0x7f..=0xff => shown += &format!("\\x{byte:02x}"),
-            _ => shown.push(char::from(*byte)),
-        }
-    }
-    shown + "\""
-}
-
-/// The line of a whole record.
-fn record(kind: u8, body: &[u8]) -> String {
-    let at = |place: usize| be(&body[place..place + 4]);
-    let signed = |place| at(place) as i32;
-    let class = |place: usize| code(body[place], &["common", "noncommon"]);
-    let named = || name(&body[..16]);
-    match kind {
-        1 => format!(
-            "head {} monitoring {} seconds {} prices {} {}",
-            named(),
-            code(body[16], &["NYISO", "PJM"]),
-            be(&body[17..19]),
-            at(19),
-            at(23)
-        ),
-        2 => format!("zone {} load {} losses {}", named(), at(16), at(20)),
-        3 => format!("unit {} zone {} output {}", named(), body[16], at(17)),
-        4 => {
-            let place = match body[17] {
-                0 => String::from("proxy"),
-                zone => format!("line {zone}"),
-            };
-            let (class, import, export) = (class(16), at(18), at(22));
-            let named = named();
-            format!("point {named} {class} {place} import {import} export {export}")
-        }
-        5 => {
-            let (class, actual, target) = (class(16), signed(17), signed(21));
-            format!("par {} {class} actual {actual} target {target}", named())
-        }
-        6 => {
-            let subject = code(body[1], &["unit", "zone", "point", "par"]);
-            let (index, factor) = (be(&body[2..4]), be(&body[4..6]) as i16);
-            format!("factor {} {subject} {index} {factor}", body[0])
-        }
-        _ => format!("entitlement {} {}", named(), signed(16)),
-    }
-}
-
-/// The length of a record with its kind byte, if it may stand in such bytes.
-fn length(kind: u8, in_sheet: bool) -> Option<usize> {
-    match (kind, in_sheet) {
-        (1, true) => Some(28),
-        (2, true) => Some(25),
-        (3, true) => Some(22),
-        (4, true) => Some(27),
-        (5, true) => Some(26),
-        (6, true) => Some(7),
-        (0x10, false) => Some(21),
-        _ => None,
-    }
-}
-
-/// The whole records at the front of a sheet or a list, and the rest.
-pub fn split(bytes: &[u8], in_sheet: bool) -> (Vec<&[u8]>, &[u8]) {
-    let (mut records, mut rest) = (Vec::new(), bytes);
-    while let Some(kind) = rest.first() {
-        let whole = length(*kind, in_sheet).and_then(|length| rest.split_at_checked(length));
-        let Some((record, behind)) = whole else { break };
-        records.push(record);
-        rest = behind;
-    }
-    (records, rest)
-}
-
-fn show(bytes: &[u8], in_sheet: bool) -> String {
-    let (records, rest) = split(bytes, in_sheet);
-    let mut text = String::new();
-    for whole in records {
-        text += &record(whole[0], &whole[1..]);
-        text.push('\n');
-    }
-    for line in rest.chunks(32) {
-        text += "raw ";
-        text += &hex(line);
-        text.push('\n');
-    }
-    text
-}
-
-pub fn hex(bytes: &[u8]) -> String {
-    bytes.iter().fold(String::new(), |mut text, byte| {
-        let _ = write!(text, "{byte:02x}");
-        text
+/// What the tool prints for these bytes, or its complaint.
+fn tool(words: &[&str], bytes: &[u8]) -> Result<String, String> {
+    let path = root().join("tools/m2m");
+    let fault = |error| format!("{}: {error}", path.display());
+    let mut child = Command::new(&path)
+        .arg("text")
+        .args(words)
+        .stdin(Stdio::piped())
+        .stdout(Stdio::piped())
+        .stderr(Stdio::piped())
+        .spawn()
+        .map_err(fault)?;
+    let mut stdin = child.stdin.take().expect("it was piped");
+    let output = std::thread::scope(|scope| {
+        scope.spawn(move || stdin.write_all(bytes));
+        child.wait_with_output()
     })
+    .map_err(fault)?;
+    let text = |bytes: &[u8]| String::from_utf8_lossy(bytes).into_owned();
+    match output.status.success() {
+        true => Ok(text(&output.stdout)),
+        false => Err(text(&output.stderr)),
+    }
+}
+
+fn shown(words: &[&str], bytes: &[u8]) -> String {
+    tool(words, bytes).unwrap_or_else(|fault| format!("# {fault}\nraw {}\n", hex(bytes)))
 }
 
 pub fn sheet(bytes: &[u8]) -> String {
-    show(bytes, true)
+    shown(&["show-sheet"], bytes)
 }
 
 pub fn entitlements(bytes: &[u8]) -> String {
-    show(bytes, false)
+    shown(&["show-entitlements"], bytes)
 }
 
-/// All figures of a statement, as a listing would name them.
-pub fn statement(s: &Statement) -> String {
-    format!(
-        "refusal {} name {} gtl {} {} {} parallel {} shadow {} common {} noncommon {} market {} \
-         entitlement {} price {} amount {} NYISO {} PJM {}",
-        s.refusal,
-        hex(&s.name),
-        s.gtl,
-        s.first_remainder,
-        s.second_remainder,
-        s.parallel,
-        s.shadow,
-        s.common,
-        s.noncommon,
-        s.market,
-        s.entitlement,
-        s.price,
-        s.amount,
-        s.nyiso,
-        s.pjm
-    )
+/// The case files below a folder, their bytes in hexadecimal digits.
+pub fn cases(folder: &Path) -> Result<String, String> {
+    tool(&["cases", &folder.to_string_lossy()], &[])
 }
 
-/// An input as a case file that expects nothing yet.
-pub fn case(input: &Input, buffer: usize) -> String {
-    format!(
-        "# {}\nsheet\n{}entitlements\n{}buffer {buffer}\n",
-        input.origin,
-        sheet(&input.sheet),
-        entitlements(&input.list)
-    )
+pub fn hex(bytes: &[u8]) -> String {
+    bytes.iter().map(|byte| format!("{byte:02x}")).collect()
+}
+
+pub fn from_hex(digits: &str) -> Option<Vec<u8>> {
+    (0..digits.len())
+        .step_by(2)
+        .map(|k| u8::from_str_radix(digits.get(k..k + 2)?, 16).ok())
+        .collect()
 }
 
 #[cfg(test)]
@@ -180,24 +77,14 @@ mod tests {
             .map(|line| format!("{line}\n"))
             .collect();
         assert_eq!(sheet(&draft::sheet_s().concat()), plain);
-        assert_eq!(
-            entitlements(&draft::list_s()),
-            "entitlement \"A\\\\B\" 100\n"
-        );
+        let list = "entitlement \"A\\\\B\" 100\n";
+        assert_eq!(entitlements(&draft::list_s()), list);
     }
 
     #[test]
-    fn what_is_no_record_is_raw() {
-        assert_eq!(sheet(&[9, 1]), "raw 0901\n");
-        assert_eq!(
-            sheet(&[6, 0, 9, 0, 1, 255, 255, 1]),
-            "factor 0 9 1 -1\nraw 01\n"
-        );
-        assert_eq!(entitlements(&[1]), "raw 01\n");
-        assert_eq!(
-            name(b"A\0B$\xff\0\0\0\0\0\0\0\0\0\0\0"),
-            r#""A\x00B\x24\xff""#
-        );
-        assert_eq!(name(&[0; 16]), "\"\"");
+    fn hexadecimal_digits_are_read_back() {
+        assert_eq!(from_hex(&hex(&[0, 9, 255])), Some(vec![0, 9, 255]));
+        assert_eq!(from_hex("0g"), None);
+        assert_eq!(from_hex("0"), None);
     }
 }

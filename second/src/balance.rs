@@ -1,93 +1,92 @@
 //! Loads and generation: steps 1 and 2, rows 16 to 21.
 
-use crate::sheet::{Place, Sheet, MOST_ZONES};
+use crate::layout::MOST_ZONES;
+use crate::refusal::Refusal;
+use crate::sheet::{Place, Sheet, ZoneNumber};
+use crate::units::Power;
 
-const LARGEST_SUM: i64 = 2_000_000;
+const LARGEST_SUM: Power = Power(2_000_000);
 
 #[derive(Clone, Debug, PartialEq, Eq)]
 pub struct Balance {
     /// Load and losses of each zone less the imports of its scheduled lines.
-    pub zone_loads: [i64; MOST_ZONES],
-    pub net_load: i64,
-    /// Net load less the imports of all proxies.
-    pub final_load: i64,
+    pub zone_loads: [Power; MOST_ZONES],
+    pub net_load: Power,
     /// The sum of all outputs, called G.
-    pub outputs: i64,
-    pub net_generation: i64,
+    pub outputs: Power,
+    pub net_generation: Power,
     /// Net generation less the exports of all proxies.
-    pub final_generation: i64,
+    pub final_generation: Power,
 }
 
 /// A quantity by zone, and what is taken from the zones' total alone.
 struct ByZone {
-    zones: [i64; MOST_ZONES],
-    proxies: i64,
+    zones: [Power; MOST_ZONES],
+    proxies: Power,
 }
 
 impl ByZone {
     fn new() -> Self {
         ByZone {
-            zones: [0; MOST_ZONES],
-            proxies: 0,
+            zones: [Power::ZERO; MOST_ZONES],
+            proxies: Power::ZERO,
         }
     }
 
-    /// Zones are numbered from 1.
-    fn add(&mut self, zone: u8, power: i64) {
-        self.zones[usize::from(zone) - 1] += power;
+    fn add(&mut self, zone: ZoneNumber, power: Power) {
+        self.zones[zone.index()] += power;
     }
 
-    fn schedule(&mut self, place: Place, power: i64) {
+    /// A schedule takes from its zone, or from the total.
+    fn schedule(&mut self, place: Place, power: Power) {
         match place {
-            Place::Line(zone) => self.add(zone, -power),
+            Place::Line(zone) => self.zones[zone.index()] -= power,
             Place::Proxy => self.proxies += power,
         }
     }
 
     fn any_below_zero(&self) -> bool {
-        self.zones.iter().any(|power| *power < 0)
+        self.zones.iter().any(|power| *power < Power::ZERO)
     }
 
-    fn net(&self) -> i64 {
-        self.zones.iter().sum()
+    fn net(&self) -> Power {
+        self.zones.iter().copied().sum()
     }
 }
 
-/// The balance of a sheet, or the number of the first row met.
-pub fn balance(sheet: &Sheet) -> Result<Balance, u8> {
-    let loads: i64 = sheet.zones.iter().map(|zone| zone.load + zone.losses).sum();
-    let outputs: i64 = sheet.units.iter().map(|unit| unit.output).sum();
+/// The balance of a sheet, or the first row met.
+pub fn balance(sheet: &Sheet) -> Result<Balance, Refusal> {
+    let loads: Power = sheet.zones.iter().map(|zone| zone.load + zone.losses).sum();
+    let outputs: Power = sheet.units.iter().map(|unit| unit.output).sum();
     if loads > LARGEST_SUM || outputs > LARGEST_SUM {
-        return Err(16);
+        return Err(Refusal::TooMuchPower);
     }
 
     let load = loads_by_zone(sheet);
     if load.any_below_zero() {
-        return Err(17);
+        return Err(Refusal::ZoneLoadBelowZero);
     }
     let net_load = load.net();
-    let final_load = net_load - load.proxies;
-    if final_load <= 0 {
-        return Err(18);
+    if net_load - load.proxies <= Power::ZERO {
+        return Err(Refusal::NoFinalLoad);
     }
 
     let generation = generation_by_zone(sheet);
     if generation.any_below_zero() {
-        return Err(19);
+        return Err(Refusal::ZoneGenerationBelowZero);
     }
     let net_generation = generation.net();
-    if net_generation == 0 {
-        return Err(20);
+    if net_generation == Power::ZERO {
+        return Err(Refusal::NoNetGeneration);
     }
     let final_generation = net_generation - generation.proxies;
-    if final_generation < 0 {
-        return Err(21);
+    if final_generation < Power::ZERO {
+        return Err(Refusal::FinalGenerationBelowZero);
     }
 
     Ok(Balance {
         zone_loads: load.zones,
         net_load,
-        final_load,
         outputs,
         net_generation,
         final_generation,

@@ -1,10 +1,10 @@
 //! Records as bytes, sound or faulty: every value that fits a field can be written.
 
-use crate::names::Name;
-use crate::sheet::{FACTOR, HEAD, PAR, POINT, UNIT, ZONE};
+use crate::layout::{ENTITLEMENT, Kind};
+use crate::names::NameField;
 
 /// The name filled to 16 bytes; what is longer is cut.
-pub fn name(text: &[u8]) -> Name {
+pub fn name(text: &[u8]) -> NameField {
     let mut name = [0; 16];
     for (to, from) in name.iter_mut().zip(text) {
         *to = *from;
@@ -21,40 +21,46 @@ fn record(kind: u8, fields: &[&[u8]]) -> Vec<u8> {
 }
 
 /// The prices are the Monitoring and the Non-Monitoring one.
-pub fn head(name: Name, monitoring: u8, seconds: u16, prices: [u32; 2]) -> Vec<u8> {
+pub fn head(name: NameField, monitoring: u8, seconds: u16, prices: [u32; 2]) -> Vec<u8> {
     let [own, other] = prices.map(u32::to_be_bytes);
     record(
-        HEAD,
+        Kind::Head as u8,
         &[&name, &[monitoring], &seconds.to_be_bytes(), &own, &other],
     )
 }
 
-pub fn zone(name: Name, load: u32, losses: u32) -> Vec<u8> {
-    record(ZONE, &[&name, &load.to_be_bytes(), &losses.to_be_bytes()])
+pub fn zone(name: NameField, load: u32, losses: u32) -> Vec<u8> {
+    record(
+        Kind::Zone as u8,
+        &[&name, &load.to_be_bytes(), &losses.to_be_bytes()],
+    )
 }
 
-pub fn unit(name: Name, zone: u8, output: u32) -> Vec<u8> {
-    record(UNIT, &[&name, &[zone], &output.to_be_bytes()])
+pub fn unit(name: NameField, zone: u8, output: u32) -> Vec<u8> {
+    record(Kind::Unit as u8, &[&name, &[zone], &output.to_be_bytes()])
 }
 
 /// Place 0 is a proxy.
-pub fn point(name: Name, class: u8, place: u8, import: u32, export: u32) -> Vec<u8> {
+pub fn point(name: NameField, class: u8, place: u8, import: u32, export: u32) -> Vec<u8> {
     let (import, export) = (import.to_be_bytes(), export.to_be_bytes());
-    record(POINT, &[&name, &[class, place], &import, &export])
+    record(
+        Kind::Point as u8,
+        &[&name, &[class, place], &import, &export],
+    )
 }
 
-pub fn par(name: Name, class: u8, actual: i32, target: i32) -> Vec<u8> {
+pub fn par(name: NameField, class: u8, actual: i32, target: i32) -> Vec<u8> {
     let (actual, target) = (actual.to_be_bytes(), target.to_be_bytes());
-    record(PAR, &[&name, &[class], &actual, &target])
+    record(Kind::Par as u8, &[&name, &[class], &actual, &target])
 }
 
 pub fn factor(target: u8, subject: u8, index: u16, factor: i16) -> Vec<u8> {
     let (index, factor) = (index.to_be_bytes(), factor.to_be_bytes());
-    record(FACTOR, &[&[target, subject], &index, &factor])
+    record(Kind::Factor as u8, &[&[target, subject], &index, &factor])
 }
 
-pub fn entitlement(name: Name, value: i32) -> Vec<u8> {
-    record(0x10, &[&name, &value.to_be_bytes()])
+pub fn entitlement(name: NameField, value: i32) -> Vec<u8> {
+    record(ENTITLEMENT, &[&name, &value.to_be_bytes()])
 }
 
 /// Sheet S of document 01, record by record.

@@ -1,28 +1,20 @@
 //! The exact flow and amount: document 01's steps with no rounding anywhere, from
 //! the sheet's content alone, and the accuracy that is demanded of rounded figures.
 
+use crate::flow::GenerationToLoad;
 use crate::fraction::Fraction;
-use crate::sheet::{Class, Place, Rto, Sheet, Subject};
+use crate::sheet::{Class, FLOWGATE, Place, Rto, Sheet, Subject, Target};
+use crate::units::{AMOUNT_DIVISOR, Amount, Power, Watts};
 
 /// Rounded figures that are to be judged.
 #[derive(Clone, Debug)]
 pub struct Rounded {
-    /// Generation-to-load flows, each with its target.
-    pub targets: Vec<RoundedTarget>,
-    pub market: i64,
-    pub amount: i64,
+    pub targets: Vec<(Target, GenerationToLoad)>,
+    pub market: Watts,
+    pub amount: Amount,
 }
 
-#[derive(Clone, Copy, Debug)]
-pub struct RoundedTarget {
-    /// 0 for the flowgate, k for the k-th PAR.
-    pub target: usize,
-    pub flow: i64,
-    pub first_remainder: i64,
-    pub second_remainder: i64,
-}
-
-/// What the exact steps 1 and 2 give.
+/// What the exact steps 1 and 2 give, in tenths of a MW.
 struct Totals {
     net_load: i64,
     net_generation: i64,
@@ -33,18 +25,18 @@ struct Totals {
 fn totals(sheet: &Sheet) -> Totals {
     let (mut net_load, mut outputs) = (0, 0);
     for zone in &sheet.zones {
-        net_load += zone.load + zone.losses;
+        net_load += zone.load.0 + zone.losses.0;
     }
     for unit in &sheet.units {
-        outputs += unit.output;
+        outputs += unit.output.0;
     }
     let (mut line_exports, mut proxy_exports) = (0, 0);
     for point in &sheet.points {
         if point.place == Place::Proxy {
-            proxy_exports += point.export;
+            proxy_exports += point.export.0;
         } else {
-            net_load -= point.import;
-            line_exports += point.export;
+            net_load -= point.import.0;
+            line_exports += point.export.0;
         }
     }
     let net_generation = outputs - line_exports;
@@ -57,15 +49,15 @@ fn totals(sheet: &Sheet) -> Totals {
 }
 
 /// The sum of zone load × zone factor, called N.
-fn weighted_loads(sheet: &Sheet, target: usize) -> i64 {
-    let factors: Vec<i64> = sheet.factors(target, Subject::Zone).collect();
+fn weighted_loads(sheet: &Sheet, target: Target) -> i64 {
+    let factors: Vec<i64> = sheet.factors(target, Subject::Zone).map(|f| f.0).collect();
     let mut sum = 0;
     for (zone, factor) in sheet.zones.iter().zip(&factors) {
-        sum += (zone.load + zone.losses) * factor;
+        sum += (zone.load.0 + zone.losses.0) * factor;
     }
     for point in &sheet.points {
         if let Place::Line(zone) = point.place {
-            sum -= point.import * factors[usize::from(zone) - 1];
+            sum -= point.import.0 * factors[zone.index()];
         }
     }
     sum
@@ -73,11 +65,11 @@ fn weighted_loads(sheet: &Sheet, target: usize) -> i64 {
 
 /// The exact generation-to-load flow of a target: (10 × A − 10 × G × N / net load)
 /// × final generation / net generation.
-pub fn generation_to_load(sheet: &Sheet, target: usize) -> Fraction {
+pub fn generation_to_load(sheet: &Sheet, target: Target) -> Fraction {
     let totals = totals(sheet);
     let mut weighted_outputs = 0;
     for (unit, factor) in sheet.units.iter().zip(sheet.factors(target, Subject::Unit)) {
-        weighted_outputs += unit.output * factor;
+        weighted_outputs += unit.output.0 * factor.0;
     }
     let generation = Fraction::whole(10 * weighted_outputs);
     let load = &Fraction::whole(10 * totals.outputs)
@@ -85,15 +77,12 @@ pub fn generation_to_load(sheet: &Sheet, target: usize) -> Fraction {
     &(&generation - &load) * &Fraction::of(totals.final_generation, totals.net_generation)
 }
 
-fn points_flow(sheet: &Sheet, target: usize, class: Class) -> i64 {
+fn points_flow(sheet: &Sheet, target: Target, class: Class) -> i64 {
+    let factors = sheet.factors(target, Subject::Point);
     let mut flow = 0;
-    for (point, factor) in sheet
-        .points
-        .iter()
-        .zip(sheet.factors(target, Subject::Point))
-    {
+    for (point, factor) in sheet.points.iter().zip(factors) {
         if point.class == class {
-            flow += (point.import - point.export) * factor * 10;
+            flow += (point.import.0 - point.export.0) * factor.0 * 10;
         }
     }
     flow
@@ -102,23 +91,24 @@ fn points_flow(sheet: &Sheet, target: usize, class: Class) -> i64 {
 fn redirect(sheet: &Sheet, class: Class) -> Fraction {
     let mut carried = Fraction::whole(0);
     let mut control = 0;
-    for (k, factor) in sheet.factors(0, Subject::Par).enumerate() {
+    for (k, factor) in sheet.factors(FLOWGATE, Subject::Par).enumerate() {
         let par = &sheet.pars[k];
         if par.class != class {
             continue;
         }
-        control += (par.actual - par.target) * factor * 10;
+        control += (par.actual.0 - par.target.0) * factor.0 * 10;
         let parallel = Fraction::whole(points_flow(sheet, k + 1, Class::NonCommon));
         let on_par = &generation_to_load(sheet, k + 1) + &parallel;
-        carried = &carried + &(&Fraction::whole(factor) * &on_par);
+        carried = &carried + &(&Fraction::whole(factor.0) * &on_par);
     }
     &(&carried * &Fraction::of(1, 10_000)) - &Fraction::whole(control)
 }
 
 /// The exact market flow in watts.
 pub fn market_flow(sheet: &Sheet) -> Fraction {
-    let scheduled = points_flow(sheet, 0, Class::NonCommon) + points_flow(sheet, 0, Class::Common);
-    let flow = &generation_to_load(sheet, 0) + &Fraction::whole(scheduled);
+    let scheduled = points_flow(sheet, FLOWGATE, Class::NonCommon)
+        + points_flow(sheet, FLOWGATE, Class::Common);
+    let flow = &generation_to_load(sheet, FLOWGATE) + &Fraction::whole(scheduled);
     let flow = &flow - &redirect(sheet, Class::Common);
     match sheet.head.monitoring {
         Rto::Nyiso => flow,
@@ -126,54 +116,54 @@ pub fn market_flow(sheet: &Sheet) -> Fraction {
     }
 }
 
-/// The exact amount in thousandths of a cent, by the price of the exact flow's own
-/// side of the entitlement, which is in tenths of a MW.
-pub fn amount(sheet: &Sheet, entitlement: i64) -> Fraction {
-    let difference = &market_flow(sheet) - &Fraction::whole(entitlement * 100_000);
+/// The exact amount in thousandths of a cent for the exact flow, by the price of its
+/// own side of the entitlement.
+pub fn amount(sheet: &Sheet, flow: &Fraction, entitlement: Power) -> Fraction {
+    let difference = flow - &Fraction::whole(entitlement.0 * 100_000);
     let price = match difference.signum() {
-        1 => sheet.head.monitoring_price,
-        -1 => sheet.head.non_monitoring_price,
+        1 => sheet.head.monitoring_price.0,
+        -1 => sheet.head.non_monitoring_price.0,
         _ => 0,
     };
-    &difference * &Fraction::of(price * sheet.head.seconds, 3_600_000)
+    &difference * &Fraction::of(price * sheet.head.seconds.0, AMOUNT_DIVISOR)
+}
+
+/// How many watts the market flow may be off: p + 2.
+pub fn flow_bound(sheet: &Sheet) -> i64 {
+    sheet.pars.len() as i64 + 2
+}
+
+/// How far the amount may be off: the flow's bound at the dearer price, and a half.
+pub fn amount_bound(sheet: &Sheet) -> Fraction {
+    let head = &sheet.head;
+    let dearer = head.monitoring_price.max(head.non_monitoring_price);
+    let worth = flow_bound(sheet) * dearer.0 * head.seconds.0;
+    &Fraction::of(worth, AMOUNT_DIVISOR) + &Fraction::of(1, 2)
 }
 
 /// Judges the accuracy of the rounded figures of an accepted interval; an error
 /// tells what is broken.
-pub fn judge(sheet: &Sheet, entitlement: i64, rounded: &Rounded) -> Result<(), String> {
-    for target in &rounded.targets {
-        judge_target(sheet, target)?;
+pub fn judge(sheet: &Sheet, entitlement: Power, rounded: &Rounded) -> Result<(), String> {
+    for (target, figures) in &rounded.targets {
+        judge_target(sheet, *target, figures)?;
     }
-    let reach = sheet.pars.len() as i64 + 2;
-    within(
-        "market flow",
-        rounded.market,
-        &market_flow(sheet),
-        &Fraction::whole(reach),
-    )?;
-    let dearer = sheet
-        .head
-        .monitoring_price
-        .max(sheet.head.non_monitoring_price);
-    let bound = &Fraction::of(reach * dearer * sheet.head.seconds, 3_600_000) + &Fraction::of(1, 2);
-    within(
-        "amount",
-        rounded.amount,
-        &amount(sheet, entitlement),
-        &bound,
-    )
+    let flow = market_flow(sheet);
+    let bound = Fraction::whole(flow_bound(sheet));
+    within("market flow", rounded.market.0, &flow, &bound)?;
+    let amount = amount(sheet, &flow, entitlement);
+    within("amount", rounded.amount.0, &amount, &amount_bound(sheet))
 }
 
 /// The generation-to-load flow is the exact one exactly when net load × second
 /// remainder = final generation × first remainder, and never more than 1 W off.
-fn judge_target(sheet: &Sheet, rounded: &RoundedTarget) -> Result<(), String> {
+fn judge_target(sheet: &Sheet, target: Target, rounded: &GenerationToLoad) -> Result<(), String> {
     let totals = totals(sheet);
-    let exact = generation_to_load(sheet, rounded.target);
-    let what = format!("generation-to-load flow of target {}", rounded.target);
-    within(&what, rounded.flow, &exact, &Fraction::whole(1))?;
-    let told = i128::from(totals.net_load) * i128::from(rounded.second_remainder)
-        == i128::from(totals.final_generation) * i128::from(rounded.first_remainder);
-    if told == (Fraction::whole(rounded.flow) == exact) {
+    let exact = generation_to_load(sheet, target);
+    let what = format!("generation-to-load flow of target {target}");
+    within(&what, rounded.flow.0, &exact, &Fraction::whole(1))?;
+    let told = i128::from(totals.net_load) * i128::from(rounded.second_remainder.0)
+        == i128::from(totals.final_generation) * i128::from(rounded.first_remainder.0);
+    if told == (Fraction::whole(rounded.flow.0) == exact) {
         return Ok(());
     }
     Err(format!(

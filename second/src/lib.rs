@@ -1,9 +1,6 @@
 //! A second implementation of the flowgate settlement, written from document 01
 //! alone. The proved program is compared with it, input by input, and timed
 //! beside it.
-//!
-//! Powers are tenths of a MW, factors ten-thousandths, flows watts, prices cents
-//! per MWh and amounts thousandths of a cent.
 
 pub mod balance;
 pub mod bigint;
@@ -12,9 +9,17 @@ pub mod entitlement;
 pub mod exact;
 pub mod flow;
 pub mod fraction;
+pub mod layout;
+pub mod listing;
 pub mod names;
 pub mod payment;
+pub mod reader;
+pub mod refusal;
+pub mod settle;
 pub mod sheet;
-pub mod statement;
+pub mod units;
 
-pub use statement::{listing, printed, settle, settle_into, Statement};
+pub use listing::{listing, printed, report};
+pub use names::Name;
+pub use refusal::Refusal;
+pub use settle::{Statement, settle};

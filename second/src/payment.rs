@@ -1,39 +1,41 @@
-//! The payment of section 7.2.
+//! The payment of section 7.2, and row 22 for the flow that is paid on.
 
-use crate::flow::rounded_quotient;
+use crate::refusal::Refusal;
 use crate::sheet::{Head, Rto};
+use crate::units::{Amount, Price, Watts};
 
-/// Watts in a tenth of a MW.
-pub const WATTS_PER_POWER: i64 = 100_000;
+/// Row 22 refuses a flow beyond this.
+pub const LARGEST_FLOW: Watts = Watts(10_000_000_000);
 
-/// Watts × cents per MWh × seconds to thousandths of a cent.
-pub const AMOUNT_DIVISOR: i64 = 3_600_000;
-
-/// Amount and payments in thousandths of a cent; positive means received.
-#[derive(Clone, Copy, Debug, Default, PartialEq, Eq)]
+/// Positive payments are received.
+#[derive(Clone, Copy, Debug, PartialEq, Eq)]
 pub struct Payment {
-    pub price: i64,
-    pub amount: i64,
-    pub nyiso: i64,
-    pub pjm: i64,
+    pub price: Price,
+    pub amount: Amount,
+    pub nyiso: Amount,
+    pub pjm: Amount,
 }
 
-/// The payment for the market flow's difference from the entitlement, in watts.
-pub fn payment(head: &Head, difference: i64) -> Payment {
-    let price = match difference.signum() {
+/// The payment for a flow beside the entitlement to it.
+pub fn payment(head: &Head, flow: Watts, entitlement: Watts) -> Result<Payment, Refusal> {
+    if flow.abs() > LARGEST_FLOW {
+        return Err(Refusal::FlowOutOfRange);
+    }
+    let difference = flow - entitlement;
+    let price = match difference.0.signum() {
         1 => head.monitoring_price,
         -1 => head.non_monitoring_price,
-        _ => 0,
+        _ => Price::ZERO,
     };
-    let (amount, _) = rounded_quotient(difference * price * head.seconds, AMOUNT_DIVISOR);
+    let amount = difference.cost(price, head.seconds);
     let (nyiso, pjm) = match head.monitoring {
         Rto::Nyiso => (amount, -amount),
         Rto::Pjm => (-amount, amount),
     };
-    Payment {
+    Ok(Payment {
         price,
         amount,
         nyiso,
         pjm,
-    }
+    })
 }

@@ -4,12 +4,13 @@ mod common;
 
 use common::Small;
 use second::draft;
-use second::exact::{self, Rounded, RoundedTarget};
-use second::flow::rounded_quotient;
+use second::exact::{self, Rounded};
+use second::flow::GenerationToLoad;
 use second::fraction::Fraction;
-use second::payment::payment;
-use second::sheet::{read, Head, Rto};
-use second::{listing, settle, settle_into, Statement};
+use second::reader::read;
+use second::sheet::FLOWGATE;
+use second::units::{Amount, Power, Price, Remainder, Seconds, Watts, rounded_quotient};
+use second::{Refusal, Statement, listing, report, settle};
 
 const LISTING_S: &str = "flowgate 415c42
 gtl 12600000 0 0
@@ -25,29 +26,31 @@ NYISO -1328125
 PJM 1328125
 ";
 
-fn settled(small: &Small, value: i32) -> Statement {
+fn settled(small: &Small, value: i32) -> Result<Statement, Refusal> {
     let list = draft::entitlement(draft::name(b"F"), value);
     settle(&small.bytes(), &list)
 }
 
 fn amount(difference: i64, price: i64, seconds: i64) -> i64 {
-    let head = Head {
-        name: &[b'F'; 16],
-        monitoring: Rto::Pjm,
-        seconds,
-        monitoring_price: price,
-        non_monitoring_price: price,
-    };
-    payment(&head, difference).amount
+    Watts(difference).cost(Price(price), Seconds(seconds)).0
+}
+
+fn gtl(flow: i64, first_remainder: i64, second_remainder: i64) -> GenerationToLoad {
+    GenerationToLoad {
+        flow: Watts(flow),
+        first_remainder: Remainder(first_remainder),
+        second_remainder: Remainder(second_remainder),
+    }
 }
 
 #[test]
 fn sheet_s_prints_its_listing() {
     let sheet = draft::sheet_s().concat();
-    let statement = settle(&sheet, &draft::list_s());
+    let statement = settle(&sheet, &draft::list_s()).unwrap();
     assert_eq!(listing(&statement), LISTING_S.as_bytes());
     let mut out = [0x5a; 400];
-    assert_eq!(settle_into(&sheet, &draft::list_s(), &mut out), statement);
+    let answer = report(&sheet, &draft::list_s(), &mut out);
+    assert_eq!(answer, Ok((statement, LISTING_S.len())));
     let (front, rest) = out.split_at(LISTING_S.len());
     assert_eq!(front, LISTING_S.as_bytes());
     assert!(rest.iter().all(|byte| *byte == 0x5a));
@@ -58,16 +61,12 @@ fn a_short_buffer_is_refused_unchanged() {
     let (sheet, list) = (draft::sheet_s().concat(), draft::list_s());
     for length in 0..LISTING_S.len() {
         let mut out = vec![0x5a; length];
-        let statement = settle_into(&sheet, &list, &mut out);
-        let refused = Statement {
-            refusal: 23,
-            ..Statement::default()
-        };
-        assert_eq!(statement, refused);
+        let answer = report(&sheet, &list, &mut out);
+        assert_eq!(answer, Err(Refusal::BufferTooShort));
         assert!(out.iter().all(|byte| *byte == 0x5a));
     }
     let mut out = vec![0x5a; LISTING_S.len()];
-    assert_eq!(settle_into(&sheet, &list, &mut out).refusal, 0);
+    assert!(report(&sheet, &list, &mut out).is_ok());
 }
 
 #[test]
@@ -87,16 +86,14 @@ fn flow_of_seven_is_not_exact() {
         output: (1, 1),
         points: vec![],
     };
-    let statement = settled(&small, 0);
-    let figures = (
-        statement.gtl,
-        statement.first_remainder,
-        statement.second_remainder,
-    );
-    assert_eq!(figures, (7, 1, 0));
+    let statement = settled(&small, 0).unwrap();
+    assert_eq!(statement.flow.generation_to_load, gtl(7, 1, 0));
     let bytes = small.bytes();
     let sheet = read(&bytes).unwrap();
-    assert_eq!(exact::generation_to_load(&sheet, 0), Fraction::of(20, 3));
+    assert_eq!(
+        exact::generation_to_load(&sheet, FLOWGATE),
+        Fraction::of(20, 3)
+    );
 }
 
 #[test]
@@ -106,16 +103,14 @@ fn flow_of_minus_ten_is_exact_with_remainders() {
         output: (5, 0),
         points: vec![(1, 0, 0, 1, 0)],
     };
-    let statement = settled(&small, 0);
-    let figures = (
-        statement.gtl,
-        statement.first_remainder,
-        statement.second_remainder,
-    );
-    assert_eq!(figures, (-10, -2, -2));
+    let statement = settled(&small, 0).unwrap();
+    assert_eq!(statement.flow.generation_to_load, gtl(-10, -2, -2));
     let bytes = small.bytes();
     let sheet = read(&bytes).unwrap();
-    assert_eq!(exact::generation_to_load(&sheet, 0), Fraction::whole(-10));
+    assert_eq!(
+        exact::generation_to_load(&sheet, FLOWGATE),
+        Fraction::whole(-10)
+    );
 }
 
 #[test]
@@ -134,11 +129,12 @@ fn at_the_entitlement_the_price_is_zero() {
         output: (1, 0),
         points: vec![(2, 0, 100, 0, 10_000)],
     };
-    let statement = settled(&small, 100);
-    assert_eq!(statement.market, 10_000_000);
-    assert_eq!((statement.price, statement.amount), (0, 0));
-    assert_eq!(settled(&small, 99).price, 5000);
-    assert_eq!(settled(&small, 101).price, 2000);
+    let at = |value| settled(&small, value).unwrap();
+    assert_eq!(at(100).flow.market, Watts(10_000_000));
+    assert_eq!(at(100).payment.price, Price::ZERO);
+    assert_eq!(at(100).payment.amount, Amount::ZERO);
+    assert_eq!(at(99).payment.price, Price(5000));
+    assert_eq!(at(101).payment.price, Price(2000));
 }
 
 #[test]
@@ -148,8 +144,8 @@ fn final_load_must_be_above_zero() {
         output: (1, 0),
         points: vec![(1, 0, import, 0, 0)],
     };
-    assert_eq!(settled(&with_import(9), 0).refusal, 0);
-    assert_eq!(settled(&with_import(10), 0).refusal, 18);
+    assert!(settled(&with_import(9), 0).is_ok());
+    assert_eq!(settled(&with_import(10), 0), Err(Refusal::NoFinalLoad));
 }
 
 #[test]
@@ -159,38 +155,34 @@ fn final_generation_may_be_zero() {
         output: (10, 7),
         points: vec![(1, 0, 0, export, 0)],
     };
-    let statement = settled(&with_export(10), 0);
-    assert_eq!((statement.refusal, statement.gtl), (0, 0));
-    assert_eq!(statement.second_remainder, 0);
-    assert_eq!(settled(&with_export(11), 0).refusal, 21);
+    let statement = settled(&with_export(10), 0).unwrap();
+    let flow = statement.flow.generation_to_load;
+    assert_eq!(flow, gtl(0, flow.first_remainder.0, 0));
+    let refusal = Refusal::FinalGenerationBelowZero;
+    assert_eq!(settled(&with_export(11), 0), Err(refusal));
 }
 
 #[test]
 fn accuracy_is_judged_by_exact_figures() {
     let bytes = draft::sheet_s().concat();
     let sheet = read(&bytes).unwrap();
-    let target = RoundedTarget {
-        target: 0,
-        flow: 12_600_000,
-        first_remainder: 0,
-        second_remainder: 0,
-    };
     let sound = Rounded {
-        targets: vec![target],
-        market: 13_187_500,
-        amount: 1_328_125,
+        targets: vec![(FLOWGATE, gtl(12_600_000, 0, 0))],
+        market: Watts(13_187_500),
+        amount: Amount(1_328_125),
     };
-    assert_eq!(exact::judge(&sheet, 100, &sound), Ok(()));
+    let entitlement = Power(100);
+    assert_eq!(exact::judge(&sheet, entitlement, &sound), Ok(()));
     let verdict = |change: &dyn Fn(&mut Rounded)| {
         let mut rounded = sound.clone();
         change(&mut rounded);
-        exact::judge(&sheet, 100, &rounded)
+        exact::judge(&sheet, entitlement, &rounded)
     };
-    assert!(verdict(&|r| r.market += 3).is_ok());
-    assert!(verdict(&|r| r.market += 4).is_err());
+    assert!(verdict(&|r| r.market += Watts(3)).is_ok());
+    assert!(verdict(&|r| r.market += Watts(4)).is_err());
     // Three watts of bound at 5000 and 300 s are 1.25, and a half for the amount.
-    assert!(verdict(&|r| r.amount += 1).is_ok());
-    assert!(verdict(&|r| r.amount += 2).is_err());
-    assert!(verdict(&|r| r.targets[0].flow += 1).is_err());
-    assert!(verdict(&|r| r.targets[0].first_remainder = 1).is_err());
+    assert!(verdict(&|r| r.amount += Amount(1)).is_ok());
+    assert!(verdict(&|r| r.amount += Amount(2)).is_err());
+    assert!(verdict(&|r| r.targets[0].1.flow += Watts(1)).is_err());
+    assert!(verdict(&|r| r.targets[0].1.first_remainder = Remainder(1)).is_err());
 }

@@ -2,7 +2,10 @@
 
 use second::draft::{self, factor, head, name, par, point, unit, zone};
 use second::entitlement::entitlement;
-use second::sheet::{read, Refusal};
+use second::names::NameField;
+use second::reader::{Refused, read};
+use second::units::Power;
+use second::{Name, Refusal};
 
 const S_HEAD: usize = 0;
 const S_ZONE: usize = 1;
@@ -13,8 +16,8 @@ const S_FACTOR: usize = 8;
 
 fn refusal(records: &[Vec<u8>]) -> Option<(u8, usize)> {
     let bytes = records.concat();
-    let refusal = read(&bytes).err();
-    refusal.map(|Refusal { number, place }| (number, place))
+    let refused = read(&bytes).err();
+    refused.map(|Refused { refusal, place }| (refusal.number(), place))
 }
 
 fn place_of(records: &[Vec<u8>], record: usize) -> usize {
@@ -34,7 +37,7 @@ fn sheet_s_is_read() {
     let sheet = read(&bytes).unwrap();
     assert_eq!((sheet.zones.len(), sheet.units.len()), (2, 2));
     assert_eq!((sheet.points.len(), sheet.pars.len()), (2, 1));
-    assert_eq!(sheet.factor_count(), 13);
+    assert_eq!(sheet.factor_records.len(), 13);
 }
 
 #[test]
@@ -46,7 +49,7 @@ fn every_truncation_is_refused() {
         begins.push(begins[begins.len() - 1] + record.len());
     }
     for length in 0..bytes.len() {
-        let refusal = read(&bytes[..length]).unwrap_err();
+        let refused = read(&bytes[..length]).unwrap_err();
         let whole = begins.partition_point(|begin| *begin <= length) - 1;
         let expected = match (begins[whole] == length, whole) {
             (true, 0) => (1, 0),
@@ -54,7 +57,7 @@ fn every_truncation_is_refused() {
             (true, _) => (13, length),
             (false, _) => (3, begins[whole]),
         };
-        assert_eq!((refusal.number, refusal.place), expected);
+        assert_eq!((refused.refusal.number(), refused.place), expected);
     }
 }
 
@@ -143,7 +146,7 @@ fn what_is_due_comes_from_what_is_there() {
     assert_eq!(refusal(&[head, factor(0, 2, 1, 0)]), Some((10, 28)));
 }
 
-fn named(k: u16) -> [u8; 16] {
+fn named(k: u16) -> NameField {
     name(format!("F{k}").as_bytes())
 }
 
@@ -152,12 +155,12 @@ fn the_whole_list_is_checked_before_its_search() {
     let mut records: Vec<Vec<u8>> = (0..2500)
         .map(|k| draft::entitlement(named(k), i32::from(k as i16) - 1000))
         .collect();
-    let find = |records: &[Vec<u8>], k| entitlement(&records.concat(), &named(k));
+    let find = |records: &[Vec<u8>], k| entitlement(&records.concat(), Name::of(named(k)).unwrap());
     for k in [0, 1234, 2499] {
-        assert_eq!(find(&records, k), Ok(i64::from(k) - 1000));
+        assert_eq!(find(&records, k), Ok(Power(i64::from(k) - 1000)));
     }
-    assert_eq!(find(&records, 2500), Err(15));
-    assert_eq!(find(&[], 0), Err(15));
+    assert_eq!(find(&records, 2500), Err(Refusal::NoEntitlement));
+    assert_eq!(find(&[], 0), Err(Refusal::NoEntitlement));
     for at in [0, 1234, 2499] {
         let sound = records[at].clone();
         let faulty = [
@@ -169,12 +172,12 @@ fn the_whole_list_is_checked_before_its_search() {
         ];
         for record in faulty {
             records[at] = record;
-            assert_eq!(find(&records, 7), Err(14));
+            assert_eq!(find(&records, 7), Err(Refusal::FaultyList));
         }
         records[at] = sound;
     }
     records.push(draft::entitlement(named(2500), 0));
-    assert_eq!(find(&records, 7), Err(14));
+    assert_eq!(find(&records, 7), Err(Refusal::FaultyList));
     records[2500].truncate(1);
-    assert_eq!(find(&records, 7), Err(14));
+    assert_eq!(find(&records, 7), Err(Refusal::FaultyList));
 }

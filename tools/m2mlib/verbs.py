@@ -3,6 +3,7 @@
 import getopt
 import os
 import sys
+from contextlib import suppress
 from typing import Callable, NamedTuple
 
 from .cases import case_files, case_lines
@@ -36,8 +37,10 @@ class Verb(NamedTuple):
 
 
 def warn(line):
-    if sys.stderr is not None:
-        print(f"m2m: {line}", file=sys.stderr, flush=True)
+    """Tells a line on standard error, if that can be written to."""
+    with suppress(OSError, AttributeError):
+        sys.stderr.write(f"m2m: {line}\n")
+        sys.stderr.flush()
 
 
 def run_settle(call):
@@ -90,6 +93,7 @@ def run_manual(call):
     return 0
 
 
+SEE = "'m2m --help' tells all"
 ANY = 1 << 62
 VERBS = {
     "settle": Verb(run_settle, 1, ANY, ("words", "json", "csv", "list=")),
@@ -104,21 +108,20 @@ VERBS = {
 def call_verb(arguments, output):
     """Runs what the arguments ask for; the status."""
     word, *rest = arguments or [""]
-    if word in ("-h", "--help"):
-        word = "help"
+    word = "help" if word in ("-h", "--help") else word
     if word not in VERBS:
-        known = ", ".join(VERBS)
-        raise Trouble(f"'{word}' is no verb; there are {known}. 'm2m --help' tells all" if word else f"a verb is wanted: {known}. 'm2m --help' tells all")
+        said = f"'{word}' is no verb" if word else "a verb is wanted"
+        raise Trouble(f"{said}: there are {', '.join(VERBS)}; {SEE}")
     verb = VERBS[word]
     try:
         options, rest = getopt.gnu_getopt(rest, "h", ["help", *verb.options])
     except getopt.GetoptError as error:
-        raise Trouble(f"{word}: {error.msg}; 'm2m --help' tells all") from None
+        raise Trouble(f"{word}: {error.msg}; {SEE}") from None
     if any(option in ("-h", "--help") for option, _ in options):
         verb, rest = VERBS["help"], []
     if not verb.least <= len(rest) <= verb.most:
         count = "more" if len(rest) < verb.least else "fewer"
-        raise Trouble(f"{word}: {count} arguments are wanted; 'm2m --help' tells all")
+        raise Trouble(f"{word}: {count} arguments are wanted; {SEE}")
     return verb.run(Call(rest, dict(options), output))
 
 

@@ -5,12 +5,13 @@ use std::hint::black_box;
 use std::time::Instant;
 
 use compare::chance::Chance;
-use compare::interval::{drawn, Interval, Scale, Sizes};
-use compare::side::{Second, Side};
-use compare::Tested;
+use compare::crafted::one_bucket;
+use compare::interval::{Interval, Scale, Sizes, drawn};
+use compare::library::Library;
+use compare::sides::{Second, Side};
 use second::draft;
-use second::names::Name;
-use second::statement::LONGEST_LISTING;
+use second::listing::LONGEST_LISTING;
+use second::names::NameField;
 
 const ROUNDS: usize = 300;
 const ROUND_NANOSECONDS: f64 = 3e5;
@@ -29,7 +30,7 @@ fn time(side: &dyn Side, question: &Question, repeats: usize) -> f64 {
 
 /// The best time of each side in nanoseconds, in rounds by turns.
 fn best(question: &Question) -> [f64; 2] {
-    let sides: [&dyn Side; 2] = [&Tested::default(), &Second];
+    let sides: [&dyn Side; 2] = [&Library, &Second];
     assert_eq!(question(sides[0]), question(sides[1]), "answers differ");
     let once = time(sides[0], question, 3).max(time(sides[1], question, 3));
     let repeats = (ROUND_NANOSECONDS / once).ceil() as usize;
@@ -61,8 +62,8 @@ fn row_of(what: &str, bytes: usize, inputs: usize, question: Question) {
 /// Settles with a buffer of the longest listing's length.
 fn settled(side: &dyn Side, sheet: &[u8], list: &[u8]) -> i64 {
     let mut out = [0; LONGEST_LISTING];
-    let statement = side.settle_into(sheet, list, &mut out);
-    statement.amount + i64::from(statement.refusal) + i64::from(out[0])
+    let answer = side.report(sheet, list, &mut out).figures;
+    answer.amount + i64::from(answer.refusal) + i64::from(out[0])
 }
 
 fn settle_row(what: &str, sheet: &[u8], list: &[u8]) {
@@ -74,7 +75,7 @@ fn settle_row(what: &str, sheet: &[u8], list: &[u8]) {
 fn in_turn(what: &str, intervals: &[Interval]) {
     let inputs: Vec<(Vec<u8>, Vec<u8>)> = intervals
         .iter()
-        .map(|it| (it.records().concat(), draft::entitlement(it.name, 5)))
+        .map(|it| (it.records().concat(), draft::entitlement(it.head.name, 5)))
         .collect();
     let bytes = inputs.iter().map(|(s, l)| s.len() + l.len()).sum();
     let question = |side: &dyn Side| inputs.iter().map(|(s, l)| settled(side, s, l)).sum();
@@ -89,14 +90,14 @@ fn read_row(what: &str, sheet: &[u8]) {
     row(what, sheet.len(), Box::new(question));
 }
 
-fn list_row(what: &str, list: &[u8], name: &Name) {
+fn list_row(what: &str, list: &[u8], name: &NameField) {
     let question = |side: &dyn Side| side.entitlement(list, name).value;
     row(what, list.len(), Box::new(question));
 }
 
 /// Names of 16 random bytes, in random or in rising order.
-fn names(chance: &mut Chance, count: usize, rising: bool) -> Vec<Name> {
-    let mut names: Vec<Name> = (0..count)
+fn names(chance: &mut Chance, count: usize, rising: bool) -> Vec<NameField> {
+    let mut names: Vec<NameField> = (0..count)
         .map(|_| [0; 16].map(|_: u8| 1 + chance.below(255) as u8))
         .collect();
     if rising {
@@ -115,14 +116,14 @@ fn interval(chance: &mut Chance, sizes: Sizes, rising: bool) -> Interval {
         let mut interval = drawn(chance, sizes, scale);
         let names = names(chance, 256, rising);
         interval.rename(|k| names[k]);
-        let list = draft::entitlement(interval.name, 0);
+        let list = draft::entitlement(interval.head.name, 0);
         if Second.settle(&interval.records().concat(), &list).refusal == 0 {
             return interval;
         }
     }
 }
 
-fn list(chance: &mut Chance, flowgate: Name, rising: bool) -> Vec<u8> {
+fn list(chance: &mut Chance, flowgate: NameField, rising: bool) -> Vec<u8> {
     let mut names = names(chance, 2_500, rising);
     // In the middle, and in its place among rising names.
     names[1250] = flowgate;
@@ -136,14 +137,14 @@ fn list(chance: &mut Chance, flowgate: Name, rising: bool) -> Vec<u8> {
 /// The longest sheet and list, with names in random or in rising order.
 fn longest(chance: &mut Chance, order: &str, rising: bool) {
     let longest = interval(chance, Sizes::LONGEST, rising);
-    let list = list(chance, longest.name, rising);
+    let list = list(chance, longest.head.name, rising);
     let mut sheet = longest.records().concat();
-    let one = draft::entitlement(longest.name, 5);
+    let one = draft::entitlement(longest.head.name, 5);
     let what = |what: &str| format!("{what}, {order} names");
     settle_row(&what("longest sheet, 2,500 entries"), &sheet, &list);
     settle_row(&what("longest sheet, one entry"), &sheet, &one);
     read_row(&what("longest sheet, reading alone"), &sheet);
-    list_row(&what("2,500 entries alone"), &list, &longest.name);
+    list_row(&what("2,500 entries alone"), &list, &longest.head.name);
     let factor = sheet.len() - 2;
     sheet[factor..].copy_from_slice(&i16::MAX.to_be_bytes());
     settle_row(&what("refused at its last record"), &sheet, &list);
@@ -167,7 +168,7 @@ fn growth(chance: &mut Chance) {
         };
         let interval = interval(chance, sizes, false);
         let what = format!("zones {zones}, units {units}, points {points}, PARs {pars}");
-        let one = draft::entitlement(interval.name, 5);
+        let one = draft::entitlement(interval.head.name, 5);
         settle_row(&what, &interval.records().concat(), &one);
     }
 }
@@ -209,25 +210,6 @@ fn eight(chance: &mut Chance) {
     in_turn("eight short sheets in turn, each", &shapes(short, chance));
 }
 
-/// Names that share a bucket of the hash on both sides, whatever the table's size.
-/// Ours adds the remainders of both halves and keeps the lowest twelve bits (fewer in
-/// smaller tables); the Rust implementation's folds the halves into one word, so that
-/// names of one folded word have one hash.
-fn one_bucket(chance: &mut Chance, count: usize) -> Vec<Name> {
-    const FOLDED: u64 = 0x5a17_c3e9_0b64_d28f;
-    const BUCKET: u64 = 0x2b5;
-    let whole = |half: u64| half.to_be_bytes().iter().all(|byte| *byte != 0);
-    let mut names = Vec::with_capacity(count);
-    while names.len() < count {
-        let high = chance.draw();
-        let low = high.rotate_left(29) ^ FOLDED;
-        if (high % 65_521 + low % 65_519) & 4_095 == BUCKET && whole(high) && whole(low) {
-            names.push(((u128::from(high) << 64) | u128::from(low)).to_be_bytes());
-        }
-    }
-    names
-}
-
 /// The slowest names that anyone can write.
 fn crafted(chance: &mut Chance) {
     let names = one_bucket(chance, 2_500);
@@ -237,7 +219,7 @@ fn crafted(chance: &mut Chance) {
     let mut interval = interval(chance, Sizes::LONGEST, false);
     interval.rename(|k| names[k]);
     let sheet = interval.records().concat();
-    let one = draft::entitlement(interval.name, 5);
+    let one = draft::entitlement(interval.head.name, 5);
     settle_row("longest sheet, one entry, one bucket", &sheet, &one);
     read_row("longest sheet, reading alone, one bucket", &sheet);
 }

@@ -5,9 +5,10 @@ use lib.Dec.{eqb}
 use lib.IntN.{ℤ, pos, _*ℤ_}
 use lib.ListN.{length}
 use Rattle.records.specs.declared.Head.{Head}
+use Rattle.records.specs.Codes.{common, noncommon}
 use Rattle.records.specs.Content.{Content, head, par}
 use Rattle.figures.specs.Balance.{netLoad, netGeneration, finalGeneration, grossOutput}
-use Rattle.figures.specs.Flow.{common, noncommon, weightedOutput, weightedLoad, parallel, shadow, parFactor, control, nyisoMonitors}
+use Rattle.figures.specs.Flow.{weightedOutput, weightedLoad, parallel, shadow, parFactor, control, nyisoMonitors}
 use Rattle.figures.specs.Payment.{inWatts, price}
 use Rattle.accuracy.specs.Fraction.{Fraction, entire, _⊕_, _⊖_, _⊗_, _⊘_, sumOf}
 

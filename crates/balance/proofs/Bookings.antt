@@ -15,9 +15,11 @@ use Rattle.integers.proofs.Sums.{sum-zero, sum-suc, sum-abs}
 use Rattle.records.specs.declared.Place.{Place}
 use Rattle.records.specs.declared.Place.the-variants.{Proxy, Line}
 use Rattle.records.specs.Content.{Content, zone, unit, point}
-use Rattle.records.specs.Valid.{Valid, LineFits, PointFits}
+use Rattle.record_rows.specs.inner.Valid.{Valid, LineFits, PointFits}
 use Rattle.balance.specs.declared.Booking.{Booking}
-use Rattle.balance.specs.inner.Ledger.{loads, outputs, imports, exports, numberOf, pointBooking, bookingOf, bookings, bookedAt, sumAt, Sums, Small}
+use Rattle.balance.specs.declared.Ledger.{Ledger}
+use Rattle.balance.specs.declared.Ledger.the-variants.{Loads, Outputs, Imports, Exports}
+use Rattle.balance.specs.inner.Ledger.{numberOf, bookingOf, bookings, bookedAt, sumAt, Sums, Small}
 
 pub record BookingFits (b : Booking) : Type 0 where
   pub number : b .number < 33
@@ -28,38 +30,31 @@ unfolding numberOf
 number-most Proxy zones h = omega arith
 number-most (Line n) zones h = h n refl .most
 
-module _ (c : Content) (v : Valid c) (ledger : ℕ) where
-  pub booking-fits : (i : ℕ) → i < bookings c ledger → BookingFits (bookingOf c ledger i)
-  unfolding bookings bookingOf pointBooking
-  booking-fits i h = go (eqb ledger loads) (eqb ledger outputs) (eqb ledger imports) h
-    where
-      at-place : (x : ℕ) → PointFits (length (c .zones)) (point c i) → x ≤ 200000 → BookingFits (record { number = numberOf (point c i .place); amount = x })
-      at-place x f g = record {
-        number = omega (arith, number-most (point c i .place) (length (c .zones)) (f .place), v .zones-most);
-        amount = omega arith;
-      }
+module _ (c : Content) (v : Valid c) where
+  at-place : (i x : ℕ) → PointFits (length (c .zones)) (point c i) → x ≤ 200000 → BookingFits (record { number = numberOf (point c i .place); amount = x })
+  at-place i x f g = record {
+    number = omega (arith, number-most (point c i .place) (length (c .zones)) (f .place), v .zones-most);
+    amount = omega arith;
+  }
 
-      go : (a b d : Bool) → i < cond a (length (c .zones)) (cond b (length (c .units)) (length (c .points))) →
-          BookingFits (cond a (record { number = i + 1; amount = zone c i .load + zone c i .losses })
-          (cond b (record { number = unit c i .zone; amount = unit c i .output })
-          (cond d (record { number = numberOf (point c i .place); amount = point c i .import }) (record { number = numberOf (point c i .place); amount = point c i .export }))))
-      go true b d h = let f = v .zone-fits i h in record { number = omega (arith, v .zones-most); amount = omega arith }
-      go false true d h = let f = v .unit-fits i h in record { number = omega (arith, v .zones-most); amount = omega arith }
-      go false false true h = let f = v .point-fits i h in at-place (point c i .import) f (f .import)
-      go false false false h = let f = v .point-fits i h in at-place (point c i .export) f (f .export)
+  pub booking-fits : (ledger : Ledger) (i : ℕ) → i < bookings c ledger → BookingFits (bookingOf c ledger i)
+  unfolding bookings bookingOf
+  booking-fits Loads i h = let f = v .zone-fits i h in record { number = omega (arith, v .zones-most); amount = omega arith }
+  booking-fits Outputs i h = let f = v .unit-fits i h in record { number = omega (arith, v .zones-most); amount = omega arith }
+  booking-fits Imports i h = let f = v .point-fits i h in at-place i (point c i .import) f (f .import)
+  booking-fits Exports i h = let f = v .point-fits i h in at-place i (point c i .export) f (f .export)
 
-  pub bookings-most : bookings c ledger ≤ 256
+  pub bookings-most : (ledger : Ledger) → bookings c ledger ≤ 256
   unfolding bookings
-  bookings-most = go (eqb ledger loads) (eqb ledger outputs)
-    where
-      go : (a b : Bool) → cond a (length (c .zones)) (cond b (length (c .units)) (length (c .points))) ≤ 256
-      go true b = omega (arith, v .zones-most)
-      go false true = v .units-most
-      go false false = omega (arith, v .points-most)
+  bookings-most Loads = omega (arith, v .zones-most)
+  bookings-most Outputs = v .units-most
+  bookings-most Imports = omega (arith, v .points-most)
+  bookings-most Exports = omega (arith, v .points-most)
 
+module _ (c : Content) (v : Valid c) (ledger : Ledger) where
   booked-most : (n i : ℕ) → i < bookings c ledger → natAbs (bookedAt c ledger n i) ≤ 4000000
   unfolding bookedAt
-  booked-most n i h = go (eqb (bookingOf c ledger i .number) n) (booking-fits i h .amount)
+  booked-most n i h = go (eqb (bookingOf c ledger i .number) n) (booking-fits c v ledger i h .amount)
     where
       go : (a : Bool) {x : ℕ} → x ≤ 4000000 → natAbs (cond a (pos x) (pos 0)) ≤ 4000000
       go true g = g
@@ -68,7 +63,7 @@ module _ (c : Content) (v : Valid c) (ledger : ℕ) where
   pub sum-most : (n i : ℕ) → i ≤ bookings c ledger → natAbs (sumTo (bookedAt c ledger n) i) ≤ 1024000000
   sum-most n i h =
       let b = sum-abs (bookedAt c ledger n) 4000000 i (λ k l. booked-most n k (omega arith)) in
-      omega (arith, bookings-most)
+      omega (arith, bookings-most c v ledger)
 
   -- an array of sums over the first i bookings
   abbrev pub Part : List ℕ → ℕ → Type 0

@@ -1,21 +1,27 @@
 // Steps 1 and 2, loads and generation (5.2, 5.3), and refusals 16 to 21.
 ghost use mathlib.Core.Path.{_≡_};
 ghost use Prim.Native.Nat.{_≤_, _<_};
-ghost use Rattle.integers.specs.Sum.{sumTo, allTo};
-ghost use Rattle.figures.specs.Balance.{atLeastZero, isZero};
+ghost use lib.IntN.{pos};
+ghost use lib.Signed.{leZ};
+ghost use Rattle.integers.specs.Sum.{allTo};
+ghost use Rattle.records.specs.Content.{Content};
 ghost use Rattle.sheet.specs.Sheet.{readSheet, contentOf};
 ghost use Rattle.sheet.specs.declared.Outcome.the-variants.{Accepted};
-ghost use Rattle.balance.specs.inner.Ledger.{numberOf, pointBooking, bookingOf, bookings, Sums, Small, netAt, loads, imports};
-ghost use Rattle.balance.specs.inner.Balance.{sideOf, grossRow, loadRow, generationRow, rowOf, balanceOf};
+ghost use Rattle.figures.specs.Balance.{balanceRow};
+ghost use Rattle.balance.specs.declared.Ledger.the-variants.{Loads, Outputs, Imports, Exports};
+ghost use Rattle.balance.specs.inner.Ledger.{numberOf, bookingOf, bookings, Sums, Small, amountAt, netAt};
+ghost use Rattle.balance.specs.inner.Balance.{total, sideOf, loadSide, generationSide, balanceOf};
 
-// The ledgers.
-pub const LOADS: u8 = 0;
+// What is summed by zone: loads with losses, outputs, imports or exports.
+pub enum Ledger {
+    Loads,
+    Outputs,
+    Imports,
+    Exports,
+}
 
-const OUTPUTS: u8 = 1;
-
-pub const IMPORTS: u8 = 2;
-
-const EXPORTS: u8 = 3;
+// The most that loads with losses, and outputs, may sum to.
+const MOST_GROSS: i64 = 2_000_000;
 
 // An amount, and the number at which it is booked: a zone's, or 0 for the proxies.
 pub struct Booking {
@@ -28,8 +34,8 @@ pub struct Booking {
 pub struct Side {
     pub gross: i64,
     pub net: i64,
-    pub last: i64,
-    pub least: bool,
+    pub final_sum: i64,
+    pub none_below_zero: bool,
 }
 
 // row: the first of 16 to 21 that is met, or 0.
@@ -50,47 +56,66 @@ fn number_of(place: records::Place) -> usize
     }
 }
 
-// The booking of a scheduling point, in the ledger of imports or of exports.
-fn point_booking(p: records::Point, ledger: u8) -> Booking
-    ensures { λ r. ⌜ r ≡ pointBooking p ledger ⌝ }
+fn load_booking(s: &[u8], l: layout::Layout, i: usize) -> Booking
+    requires { ⌜ (readSheet (now s) ≡ Accepted l) × (i < l .zones) ⌝ }
+    ensures { λ r. ⌜ r ≡ bookingOf (contentOf (now (s .entry))) Loads i ⌝ }
 {
-    let place = p.place;
-    let number = number_of(place);
-    if ledger == IMPORTS {
-        return Booking {
-            number,
-            amount: p.import,
-        };
-    }
+    let z = sheet::zone_at(s, l, i);
     Booking {
-        number,
+        number: i + 1,
+        amount: z.load + z.losses,
+    }
+}
+
+fn output_booking(s: &[u8], l: layout::Layout, i: usize) -> Booking
+    requires { ⌜ (readSheet (now s) ≡ Accepted l) × (i < l .units) ⌝ }
+    ensures { λ r. ⌜ r ≡ bookingOf (contentOf (now (s .entry))) Outputs i ⌝ }
+{
+    let u = sheet::unit_at(s, l, i);
+    Booking {
+        number: u.zone as usize,
+        amount: u.output,
+    }
+}
+
+fn import_booking(s: &[u8], l: layout::Layout, i: usize) -> Booking
+    requires { ⌜ (readSheet (now s) ≡ Accepted l) × (i < l .points) ⌝ }
+    ensures { λ r. ⌜ r ≡ bookingOf (contentOf (now (s .entry))) Imports i ⌝ }
+{
+    let p = sheet::point_at(s, l, i);
+    let place = p.place;
+    Booking {
+        number: number_of(place),
+        amount: p.import,
+    }
+}
+
+fn export_booking(s: &[u8], l: layout::Layout, i: usize) -> Booking
+    requires { ⌜ (readSheet (now s) ≡ Accepted l) × (i < l .points) ⌝ }
+    ensures { λ r. ⌜ r ≡ bookingOf (contentOf (now (s .entry))) Exports i ⌝ }
+{
+    let p = sheet::point_at(s, l, i);
+    let place = p.place;
+    Booking {
+        number: number_of(place),
         amount: p.export,
     }
 }
 
-fn booking_at(s: &[u8], l: layout::Layout, ledger: u8, i: usize) -> Booking
+fn booking_at(s: &[u8], l: layout::Layout, ledger: Ledger, i: usize) -> Booking
     requires { ⌜ (readSheet (now s) ≡ Accepted l) × (i < bookings (contentOf (now s)) ledger) ⌝ }
     ensures { λ r. ⌜ r ≡ bookingOf (contentOf (now (s .entry))) ledger i ⌝ }
 {
-    if ledger == LOADS {
-        let z = sheet::zone_at(s, l, i);
-        return Booking {
-            number: i + 1,
-            amount: z.load + z.losses,
-        };
+    match ledger {
+        Ledger::Loads => load_booking(s, l, i),
+        Ledger::Outputs => output_booking(s, l, i),
+        Ledger::Imports => import_booking(s, l, i),
+        Ledger::Exports => export_booking(s, l, i),
     }
-    if ledger == OUTPUTS {
-        let u = sheet::unit_at(s, l, i);
-        return Booking {
-            number: u.zone as usize,
-            amount: u.output,
-        };
-    }
-    point_booking(sheet::point_at(s, l, i), ledger)
 }
 
 // The sums of a ledger of n bookings, by number, in one pass.
-pub fn by_zone(s: &[u8], l: layout::Layout, ledger: u8, n: usize) -> [u64; 33]
+pub fn by_zone(s: &[u8], l: layout::Layout, ledger: Ledger, n: usize) -> [u64; 33]
     requires { ⌜ (readSheet (now s) ≡ Accepted l) × (n ≡ bookings (contentOf (now s)) ledger) ⌝ }
     ensures { λ r. ⌜ Sums (contentOf (now (s .entry))) ledger r ⌝ }
 {
@@ -106,32 +131,40 @@ pub fn by_zone(s: &[u8], l: layout::Layout, ledger: u8, n: usize) -> [u64; 33]
     sums
 }
 
-// What one array has more than the other at the zone of index z.
+// What an array has at the zone of index z.
+fn amount_at(sums: &[u64; 33], z: usize) -> i64
+    requires { ⌜ (z < 32) × Small (now sums) ⌝ }
+    ensures { λ r. ⌜ r ≡ amountAt (now (sums .entry)) z ⌝ }
+{
+    sums[z + 1] as i64
+}
+
+// What one array has more than the other there.
 pub fn net_at<'a>(plus: &'a [u64; 33], minus: &'a [u64; 33], z: usize) -> i64
     requires { ⌜ (z < 32) × Small (now plus) × Small (now minus) ⌝ }
     ensures { λ r. ⌜ r ≡ netAt (now (plus .entry)) (now (minus .entry)) z ⌝ }
 {
-    plus[z + 1] as i64 - minus[z + 1] as i64
+    amount_at(plus, z) - amount_at(minus, z)
 }
 
-// The sum of these over the zones.
-fn net_of<'a>(plus: &'a [u64; 33], minus: &'a [u64; 33], zones: usize) -> i64
-    requires { ⌜ (zones ≤ 32) × Small (now plus) × Small (now minus) ⌝ }
-    ensures { λ r. ⌜ r ≡ sumTo (netAt (now (plus .entry)) (now (minus .entry))) zones ⌝ }
+// What an array has at all zones.
+fn total(sums: &[u64; 33], zones: usize) -> i64
+    requires { ⌜ (zones ≤ 32) × Small (now sums) ⌝ }
+    ensures { λ r. ⌜ r ≡ total (now (sums .entry)) zones ⌝ }
 {
     let mut sum: i64 = 0;
     let mut z = 0;
     while z < zones {
-        sum += net_at(plus, minus, z);
+        sum += amount_at(sums, z);
         z += 1;
     }
     sum
 }
 
-// Whether none of them is below zero.
+// Whether the second array has nowhere more than the first.
 fn none_below_zero<'a>(plus: &'a [u64; 33], minus: &'a [u64; 33], zones: usize) -> bool
     requires { ⌜ (zones ≤ 32) × Small (now plus) × Small (now minus) ⌝ }
-    ensures { λ r. ⌜ r ≡ allTo (atLeastZero (netAt (now (plus .entry)) (now (minus .entry)))) zones ⌝ }
+    ensures { λ r. ⌜ r ≡ allTo (λ z. leZ (pos 0) (netAt (now (plus .entry)) (now (minus .entry)) z)) zones ⌝ }
 {
     let mut z = 0;
     while z < zones {
@@ -147,82 +180,63 @@ fn side_of<'a>(plus: &'a [u64; 33], minus: &'a [u64; 33], zones: usize) -> Side
     requires { ⌜ (zones ≤ 32) × Small (now plus) × Small (now minus) ⌝ }
     ensures { λ r. ⌜ r ≡ sideOf (now (plus .entry)) (now (minus .entry)) zones ⌝ }
 {
-    let none = [0u64; 33];
-    let gross = net_of(plus, &none, zones);
-    let net = net_of(plus, minus, zones);
-    let least = none_below_zero(plus, minus, zones);
-    let last = net - minus[0] as i64;
+    let gross = total(plus, zones);
+    let net = gross - total(minus, zones);
     Side {
         gross,
         net,
-        last,
-        least,
+        final_sum: net - minus[0] as i64,
+        none_below_zero: none_below_zero(plus, minus, zones),
     }
 }
 
-fn is_zero(x: i64) -> bool
-    ensures { λ r. ⌜ r ≡ isZero x ⌝ }
+// The first of rows 16 to 21 that is met, downwards, or 0.
+fn balance_row(load: Side, generation: Side) -> u8
+    ensures { λ r. ⌜ ((c : Content) → load ≡ loadSide c → generation ≡ generationSide c → r ≡ balanceRow c) ⌝ }
 {
-    integers::magnitude(x) == 0
-}
-
-// Rows 19 to 21.
-fn generation_row(least: bool, net: i64, last: i64) -> u8
-    ensures { λ r. ⌜ r ≡ generationRow least net last ⌝ }
-{
-    records::rows::row(
-        19,
-        !least,
-        records::rows::row(20, is_zero(net), records::rows::row(21, last < 0, 0)),
+    rows::row(
+        16,
+        (MOST_GROSS < load.gross) | (MOST_GROSS < generation.gross),
+        rows::row(
+            17,
+            !load.none_below_zero,
+            rows::row(
+                18,
+                load.final_sum <= 0,
+                rows::row(
+                    19,
+                    !generation.none_below_zero,
+                    rows::row(
+                        20,
+                        generation.net == 0,
+                        rows::row(21, generation.final_sum < 0, 0),
+                    ),
+                ),
+            ),
+        ),
     )
 }
 
-// Rows 17 and 18, then those below.
-fn load_row(least: bool, last: i64, below: u8) -> u8
-    ensures { λ r. ⌜ r ≡ loadRow least last below ⌝ }
-{
-    records::rows::row(17, !least, records::rows::row(18, last <= 0, below))
-}
-
-// Row 16, then those below.
-fn gross_row(load: i64, output: i64, below: u8) -> u8
-    ensures { λ r. ⌜ r ≡ grossRow load output below ⌝ }
-{
-    records::rows::row(16, (2_000_000 < load) | (2_000_000 < output), below)
-}
-
-// The first row that is met, downwards, or 0.
-fn row_of(load: Side, generation: Side) -> u8
-    ensures { λ r. ⌜ r ≡ rowOf load generation ⌝ }
-{
-    let below = generation_row(generation.least, generation.net, generation.last);
-    gross_row(
-        load.gross,
-        generation.gross,
-        load_row(load.least, load.last, below),
-    )
-}
-
-// booked: the loads by zone; taken: the imports by zone. The flow goes on with these two as well.
+// loads and imports are by zone. The flow goes on with these two as well.
 pub fn balance_of<'a>(
     s: &[u8],
     l: layout::Layout,
-    booked: &'a [u64; 33],
-    taken: &'a [u64; 33],
+    loads: &'a [u64; 33],
+    imports: &'a [u64; 33],
 ) -> Balance
-    requires { ⌜ (readSheet (now s) ≡ Accepted l) × Sums (contentOf (now s)) loads (now booked) × Sums (contentOf (now s)) imports (now taken) ⌝ }
+    requires { ⌜ (readSheet (now s) ≡ Accepted l) × Sums (contentOf (now s)) Loads (now loads) × Sums (contentOf (now s)) Imports (now imports) ⌝ }
     ensures { λ r. ⌜ r ≡ balanceOf (contentOf (now (s .entry))) ⌝ }
 {
     let zones = l.zones;
-    let outputs = by_zone(s, l, OUTPUTS, l.units);
-    let exports = by_zone(s, l, EXPORTS, l.points);
-    let load = side_of(booked, taken, zones);
+    let outputs = by_zone(s, l, Ledger::Outputs, l.units);
+    let exports = by_zone(s, l, Ledger::Exports, l.points);
+    let load = side_of(loads, imports, zones);
     let generation = side_of(&outputs, &exports, zones);
     Balance {
-        row: row_of(load, generation),
+        row: balance_row(load, generation),
         net_load: load.net,
         gross_output: generation.gross,
         net_generation: generation.net,
-        final_generation: generation.last,
+        final_generation: generation.final_sum,
     }
 }

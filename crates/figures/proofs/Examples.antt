@@ -1,4 +1,4 @@
--- Document 01's worked figures, computed: flows with their remainders, payments, sheet S, and each of refusals 16 to 21.
+-- Document 01's worked figures, computed: flows with their remainders, payments, sheet S; another sheet; each of refusals 16 to 22 and the order of 16 to 21.
 use Prim.Native.Nat.{ℕ}
 use mathlib.Core.Path.{_≡_, refl}
 use mathlib.Core.List.{List, [], _∷_, map}
@@ -13,9 +13,10 @@ use Rattle.records.specs.declared.Place.the-variants.{Proxy, Line}
 use Rattle.records.specs.declared.Point.{Point}
 use Rattle.records.specs.declared.Par.{Par}
 use Rattle.records.specs.declared.Factor.{Factor}
+use Rattle.records.specs.Codes.{nyiso, pjm, common, noncommon}
 use Rattle.records.specs.Content.{Content, noName, head, bears, factorFor}
-use Rattle.figures.specs.Balance.{onLine, atProxy, totalLoad, importInto, lineImports, zoneLoad, netLoad, proxyImport, proxyImports, finalLoad, output, outputIn, zoneOutput, exportFrom, lineExports, zoneGeneration, netGeneration, proxyExport, proxyExports, finalGeneration, grossOutput, grossLoad, grossAboveLimit, zoneLoadBelowZero, finalLoadNotAboveZero, zoneGenerationBelowZero, isZero, netGenerationZero, finalGenerationBelowZero, balanceRow}
-use Rattle.figures.specs.Flow.{common, noncommon, unitFactor, zoneFactor, pointFactor, parFactor, outputTerm, weightedOutput, loadTerm, weightedLoad, firstDividend, loadShare, firstRemainder, grossFlow, secondDividend, generationToLoad, secondRemainder, netSchedule, scheduleTerm, scheduleFlow, parallel, shadow, controlTerm, control, carriedTerm, carriedSum, carried, redirect, nyisoMonitors, nonCommonRedirect, marketFlow, flowRow}
+use Rattle.figures.specs.Balance.{samePlace, importAt, imports, exportAt, exports, totalLoad, zoneLoad, netLoad, finalLoad, output, outputIn, zoneOutput, zoneGeneration, netGeneration, finalGeneration, grossOutput, grossLoad, noneBelowZero, balanceRow}
+use Rattle.figures.specs.Flow.{factor, parFactor, outputTerm, weightedOutput, loadTerm, weightedLoad, firstDividend, loadShare, firstRemainder, grossFlow, secondDividend, generationToLoad, secondRemainder, netSchedule, scheduleTerm, scheduleFlow, parallel, shadow, controlTerm, control, carriedTerm, carriedSum, carried, redirect, nyisoMonitors, nonCommonRedirect, marketFlow, flowRow}
 use Rattle.figures.specs.Payment.{inWatts, difference, price, amountOf, amount, payment}
 
 -- records, most of them without a name: no figure depends on it
@@ -48,9 +49,8 @@ dear = headOf 2 900 400000 100000
 -- the numbers of the printed statement, in its order
 unfoldable pub printed : Content → ℤ → List ℤ
 unfolding sumTo quotient remainder bears factorFor
-    onLine atProxy totalLoad importInto lineImports zoneLoad netLoad output outputIn zoneOutput exportFrom lineExports zoneGeneration netGeneration
-    proxyExport proxyExports finalGeneration grossOutput
-    unitFactor zoneFactor pointFactor parFactor outputTerm weightedOutput loadTerm weightedLoad firstDividend loadShare firstRemainder grossFlow
+    samePlace importAt imports exportAt exports totalLoad zoneLoad netLoad output outputIn zoneOutput zoneGeneration netGeneration finalGeneration grossOutput
+    factor parFactor outputTerm weightedOutput loadTerm weightedLoad firstDividend loadShare firstRemainder grossFlow
     secondDividend generationToLoad secondRemainder netSchedule scheduleTerm scheduleFlow parallel shadow controlTerm control carriedTerm carriedSum
     carried redirect nyisoMonitors nonCommonRedirect marketFlow
     inWatts difference price amountOf amount payment
@@ -66,8 +66,8 @@ printed c entitlement =
     ∷ inWatts entitlement
     ∷ price (head c) (difference c entitlement)
     ∷ amount c entitlement
-    ∷ payment (head c) (amount c entitlement) 1
-    ∷ payment (head c) (amount c entitlement) 2
+    ∷ payment (head c) (amount c entitlement) nyiso
+    ∷ payment (head c) (amount c entitlement) pjm
     ∷ []
 
 -- Sheet S, with its PAR's class and its Monitoring RTO left open
@@ -97,6 +97,45 @@ likeS rto class = record {
 abbrev pub sheetS : Content
 sheetS = likeS 2 common
 
+-- A line with an export, two PARs of one class, and a common point that acts on each PAR: here G and net generation differ, a PAR's shadow
+-- flow is not zero, and the two common PARs' shares rounded one by one would carry one watt more
+abbrev pub exchanging : ℕ → Content
+exchanging rto = record {
+  heads = headOf rto 300 5000 2000 ∷ [];
+  zones = zoneOf 900 103 ∷ zoneOf 1950 50 ∷ [];
+  units = unitOf 1 1200 ∷ unitOf 2 2000 ∷ [];
+  points = pointOf noncommon (Line 2) 500 70 ∷ pointOf common Proxy 300 200 ∷ [];
+  pars = parOf common (pos 400) (pos 380) ∷ parOf common (negsuc 249) (negsuc 239) ∷ parOf noncommon (pos 90) (pos 60) ∷ [];
+  factors = factorOf 0 1 1 (pos 3000)
+      ∷ factorOf 0 1 2 (negsuc 999)
+      ∷ factorOf 0 2 1 (pos 500)
+      ∷ factorOf 0 2 2 (negsuc 199)
+      ∷ factorOf 0 3 1 (pos 1000)
+      ∷ factorOf 0 3 2 (pos 400)
+      ∷ factorOf 0 4 1 (pos 2500)
+      ∷ factorOf 0 4 2 (negsuc 1506)
+      ∷ factorOf 0 4 3 (pos 777)
+      ∷ factorOf 1 1 1 (pos 1000)
+      ∷ factorOf 1 1 2 (pos 7)
+      ∷ factorOf 1 2 1 (pos 3)
+      ∷ factorOf 1 2 2 (pos 0)
+      ∷ factorOf 1 3 1 (pos 2000)
+      ∷ factorOf 1 3 2 (pos 300)
+      ∷ factorOf 2 1 1 (pos 11)
+      ∷ factorOf 2 1 2 (negsuc 499)
+      ∷ factorOf 2 2 1 (pos 0)
+      ∷ factorOf 2 2 2 (pos 9)
+      ∷ factorOf 2 3 1 (negsuc 1299)
+      ∷ factorOf 2 3 2 (pos 1000)
+      ∷ factorOf 3 1 1 (pos 101)
+      ∷ factorOf 3 1 2 (pos 203)
+      ∷ factorOf 3 2 1 (pos 307)
+      ∷ factorOf 3 2 2 (negsuc 408)
+      ∷ factorOf 3 3 1 (pos 503)
+      ∷ factorOf 3 3 2 (negsuc 600)
+      ∷ [];
+}
+
 -- a market flow of 10,000,000 W
 abbrev pub level : Content
 level = plain dear (zoneOf 100 0 ∷ []) (unitOf 1 100 ∷ []) [] (factorOf 0 1 1 (pos 10000) ∷ factorOf 0 2 1 (pos 0) ∷ [])
@@ -107,6 +146,9 @@ statements =
     (sheetS, pos 100, pos 12600000 ∷ pos 0 ∷ pos 0 ∷ pos 5000000 ∷ pos 400000 ∷ pos 4812500 ∷ pos 0 ∷ pos 13187500 ∷ pos 10000000 ∷ pos 5000 ∷ pos 1328125 ∷ negsuc 1328124 ∷ pos 1328125 ∷ [])
     ∷ (likeS 2 noncommon, pos 100, pos 12600000 ∷ pos 0 ∷ pos 0 ∷ pos 5000000 ∷ pos 400000 ∷ pos 0 ∷ pos 4812500 ∷ pos 13187500 ∷ pos 10000000 ∷ pos 5000 ∷ pos 1328125 ∷ negsuc 1328124 ∷ pos 1328125 ∷ [])
     ∷ (likeS 1 noncommon, pos 100, pos 12600000 ∷ pos 0 ∷ pos 0 ∷ pos 5000000 ∷ pos 400000 ∷ pos 0 ∷ pos 0 ∷ pos 18000000 ∷ pos 10000000 ∷ pos 5000 ∷ pos 3333333 ∷ pos 3333333 ∷ negsuc 3333332 ∷ [])
+    ∷ (exchanging pjm, pos 100, pos 12566134 ∷ negsuc 826 ∷ pos 1210 ∷ pos 4300000 ∷ pos 400000 ∷ pos 6590213 ∷ pos 602573 ∷ pos 10073348 ∷ pos 10000000 ∷ pos 5000 ∷ pos 30562 ∷ negsuc 30561 ∷ pos 30562 ∷ [])
+    ∷ (exchanging pjm, pos 101, pos 12566134 ∷ negsuc 826 ∷ pos 1210 ∷ pos 4300000 ∷ pos 400000 ∷ pos 6590213 ∷ pos 602573 ∷ pos 10073348 ∷ pos 10100000 ∷ pos 2000 ∷ negsuc 4441 ∷ pos 4442 ∷ negsuc 4441 ∷ [])
+    ∷ (exchanging nyiso, pos 100, pos 12566134 ∷ negsuc 826 ∷ pos 1210 ∷ pos 4300000 ∷ pos 400000 ∷ pos 6590213 ∷ pos 0 ∷ pos 10675921 ∷ pos 10000000 ∷ pos 5000 ∷ pos 281634 ∷ pos 281634 ∷ negsuc 281633 ∷ [])
     ∷ (level, pos 100, pos 10000000 ∷ pos 0 ∷ pos 0 ∷ pos 0 ∷ pos 0 ∷ pos 0 ∷ pos 0 ∷ pos 10000000 ∷ pos 10000000 ∷ pos 0 ∷ pos 0 ∷ pos 0 ∷ pos 0 ∷ [])
     ∷ []
 
@@ -155,25 +197,54 @@ computed-amounts = refl
 abbrev single : ℕ → ℕ → ℕ → List Point → Content
 single load losses output points = plain dear (zoneOf load losses ∷ []) (unitOf 1 output ∷ []) points []
 
+-- two zones, and a unit in each
+abbrev double : ℕ → ℕ → ℕ → ℕ → List Point → Content
+double load other output second points = plain dear (zoneOf load 0 ∷ zoneOf other 0 ∷ []) (unitOf 1 output ∷ unitOf 2 second ∷ []) points []
+
 -- the first of refusals 16 to 21 or 0, and all that it goes through
 unfoldable pub refused : Content → ℕ
-unfolding printed allTo proxyImport proxyImports finalLoad grossLoad grossAboveLimit zoneLoadBelowZero finalLoadNotAboveZero zoneGenerationBelowZero isZero netGenerationZero finalGenerationBelowZero balanceRow
+unfolding printed allTo finalLoad grossLoad noneBelowZero balanceRow
 refused c = balanceRow c
 
+-- each row just met, and just not met
 abbrev balances : List (Content × ℕ)
 balances =
     (single 2000000 0 2000000 [], 0)
     ∷ (single 2000000 1 1 [], 16)
-    ∷ (plain dear (zoneOf 1 0 ∷ []) (unitOf 1 2000000 ∷ unitOf 1 1 ∷ []) [] [], 16)
-    ∷ (single 1 0 1 (pointOf common (Line 1) 2 0 ∷ []), 17)
+    ∷ (double 1 1 2000000 1 [], 16)
+    ∷ (double 5 2 1 1 (pointOf common (Line 2) 2 0 ∷ []), 0)
+    ∷ (double 5 1 1 1 (pointOf common (Line 2) 2 0 ∷ []), 17)
     ∷ (single 2 0 1 (pointOf noncommon Proxy 1 0 ∷ []), 0)
     ∷ (single 1 0 1 (pointOf noncommon Proxy 1 0 ∷ []), 18)
-    ∷ (single 1 0 1 (pointOf noncommon (Line 1) 0 2 ∷ []), 19)
-    ∷ (single 1 0 0 (pointOf common Proxy 0 1 ∷ []), 20)
+    ∷ (double 1 1 5 2 (pointOf noncommon (Line 2) 0 2 ∷ []), 0)
+    ∷ (double 1 1 5 1 (pointOf noncommon (Line 2) 0 2 ∷ []), 19)
+    ∷ (single 1 0 0 [], 20)
     ∷ (single 1 0 1 (pointOf common Proxy 0 1 ∷ []), 0)
     ∷ (single 1 0 1 (pointOf common Proxy 0 2 ∷ []), 21)
+    ∷ []
+
+-- contents that meet the next row too: the lower number wins
+abbrev orders : List (Content × ℕ)
+orders =
+    (double 2000000 1 1 1 (pointOf common (Line 2) 2 0 ∷ []), 16)
+    ∷ (single 1 0 1 (pointOf common (Line 1) 2 0 ∷ []), 17)
+    ∷ (single 1 0 1 (pointOf common Proxy 1 0 ∷ pointOf common (Line 1) 0 2 ∷ []), 18)
+    ∷ (double 1 1 2 0 (pointOf common (Line 2) 0 2 ∷ []), 19)
+    ∷ (single 1 0 0 (pointOf common Proxy 0 1 ∷ []), 20)
     ∷ []
 
 pub computed-balances : map (λ (r : Content × ℕ). (r .0, balanceRow (r .0))) balances ≡ balances
 unfolding refused
 computed-balances = refl
+
+pub computed-orders : map (λ (r : Content × ℕ). (r .0, balanceRow (r .0))) orders ≡ orders
+unfolding refused
+computed-orders = refl
+
+-- a market flow, and refusal 22 or 0
+abbrev outermost : List (ℤ × ℕ)
+outermost = (pos 10000000000, 0) ∷ (pos 10000000001, 22) ∷ (negsuc 9999999999, 0) ∷ (negsuc 10000000000, 22) ∷ []
+
+pub computed-rows-22 : map (λ (r : ℤ × ℕ). (r .0, flowRow (r .0))) outermost ≡ outermost
+unfolding flowRow
+computed-rows-22 = refl

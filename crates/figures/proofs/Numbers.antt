@@ -41,12 +41,9 @@ cond-within false x h = omega arith
 pub times-within : (x y : ℤ) {a b : ℕ} → natAbs x ≤ a → natAbs y ≤ b → natAbs (x *ℤ y) ≤ a * b
 times-within x y h k = omega (arith, abs-mul x y, mul-le-mul h k)
 
--- a sum of at most m terms within B each; and the sum so far, of n such terms
+-- a sum of at most m terms within B each
 pub sum-within : (f : ℕ → ℤ) (B : ℕ) {n m : ℕ} → ((i : ℕ) → i < n → natAbs (f i) ≤ B) → n ≤ m → natAbs (sumTo f n) ≤ m * B
 sum-within f B {n} h l = le-trans (sum-abs f B n h) (mul-le-mul-right B l)
-
-pub partial-within : (f : ℕ → ℤ) (B : ℕ) {n m : ℕ} → ((i : ℕ) → i < n → natAbs (f i) ≤ B) → m ≤ n → natAbs (sumTo f m) ≤ n * B
-partial-within f B h l = sum-within f B (λ i k. h i (omega arith)) l
 
 -- terms that are no larger
 plus-rise : (x y a b : ℤ) → x ≤ℤ y → a ≤ℤ b → (x +ℤ a) ≤ℤ (y +ℤ b)

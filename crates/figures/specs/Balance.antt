@@ -1,132 +1,87 @@
 -- Steps 1 and 2, loads and generation (5.2, 5.3), and refusals 16 to 21 on them. Powers are tenths of a MW.
-use Prim.Native.Nat.{ℕ, zero, suc, _+_}
+-- Zones, units and points have indices from 0; the zone of index z has the number z + 1.
+use Prim.Native.Nat.{ℕ, _+_}
 use mathlib.Core.Bool.{Bool, true, false, not, cond, _||_}
 use lib.Dec.{eqb}
-use lib.IntN.{ℤ, pos, negsuc, _+ℤ_, _-ℤ_}
+use lib.IntN.{ℤ, pos, natAbs, _+ℤ_, _-ℤ_}
 use lib.ListN.{length}
 use lib.Signed.{leZ, ltZ}
 use Rattle.integers.specs.Sum.{sumTo, allTo}
+use Rattle.rows.specs.Rows.{row}
 use Rattle.records.specs.declared.Place.{Place}
 use Rattle.records.specs.declared.Place.the-variants.{Proxy, Line}
 use Rattle.records.specs.Content.{Content, zone, unit, point}
 
--- x at a place that is a scheduled line into the zone of that number, and 0 at any other
-unfoldable pub onLine : Place → ℕ → ℕ → ℤ
-onLine Proxy number x = pos 0
-onLine (Line n) number x = cond (eqb n number) (pos x) (pos 0)
+unfoldable pub samePlace : Place → Place → Bool
+samePlace Proxy Proxy = true
+samePlace Proxy (Line m) = false
+samePlace (Line n) Proxy = false
+samePlace (Line n) (Line m) = eqb n m
 
--- x at a proxy, and 0 at a scheduled line
-unfoldable pub atProxy : Place → ℕ → ℤ
-atProxy Proxy x = pos x
-atProxy (Line n) x = pos 0
+-- a point's import, if it is at a place; imports of all points there
+unfoldable pub importAt : Content → Place → ℕ → ℤ
+importAt c place i = cond (samePlace (point c i .place) place) (pos (point c i .import)) (pos 0)
 
--- Step 1. Zones, units and points have indices from 0; the zone of index z has the number z + 1
--- a zone's load with its losses
+unfoldable pub imports : Content → Place → ℤ
+imports c place = sumTo (importAt c place) (length (c .points))
+
+-- a point's export, if it is at a place; exports of all points there
+unfoldable pub exportAt : Content → Place → ℕ → ℤ
+exportAt c place i = cond (samePlace (point c i .place) place) (pos (point c i .export)) (pos 0)
+
+unfoldable pub exports : Content → Place → ℤ
+exports c place = sumTo (exportAt c place) (length (c .points))
+
+-- Step 1. A zone's load with its losses
 unfoldable pub totalLoad : Content → ℕ → ℤ
 totalLoad c z = pos (zone c z .load) +ℤ pos (zone c z .losses)
 
--- a point's import, if it is a scheduled line into zone z
-unfoldable pub importInto : Content → ℕ → ℕ → ℤ
-importInto c z i = onLine (point c i .place) (z + 1) (point c i .import)
-
-unfoldable pub lineImports : Content → ℕ → ℤ
-lineImports c z = sumTo (importInto c z) (length (c .points))
-
 unfoldable pub zoneLoad : Content → ℕ → ℤ
-zoneLoad c z = totalLoad c z -ℤ lineImports c z
+zoneLoad c z = totalLoad c z -ℤ imports c (Line (z + 1))
 
 unfoldable pub netLoad : Content → ℤ
 netLoad c = sumTo (zoneLoad c) (length (c .zones))
 
-unfoldable pub proxyImport : Content → ℕ → ℤ
-proxyImport c i = atProxy (point c i .place) (point c i .import)
-
-unfoldable pub proxyImports : Content → ℤ
-proxyImports c = sumTo (proxyImport c) (length (c .points))
-
 unfoldable pub finalLoad : Content → ℤ
-finalLoad c = netLoad c -ℤ proxyImports c
+finalLoad c = netLoad c -ℤ imports c Proxy
 
--- Step 2
+-- Step 2. A unit's output, and the same if the unit is in zone z
 unfoldable pub output : Content → ℕ → ℤ
 output c i = pos (unit c i .output)
 
--- a unit's output, if the unit is in zone z
 unfoldable pub outputIn : Content → ℕ → ℕ → ℤ
 outputIn c z i = cond (eqb (unit c i .zone) (z + 1)) (output c i) (pos 0)
 
 unfoldable pub zoneOutput : Content → ℕ → ℤ
 zoneOutput c z = sumTo (outputIn c z) (length (c .units))
 
--- a point's export, if it is a scheduled line that ends in zone z
-unfoldable pub exportFrom : Content → ℕ → ℕ → ℤ
-exportFrom c z i = onLine (point c i .place) (z + 1) (point c i .export)
-
-unfoldable pub lineExports : Content → ℕ → ℤ
-lineExports c z = sumTo (exportFrom c z) (length (c .points))
-
 unfoldable pub zoneGeneration : Content → ℕ → ℤ
-zoneGeneration c z = zoneOutput c z -ℤ lineExports c z
+zoneGeneration c z = zoneOutput c z -ℤ exports c (Line (z + 1))
 
 unfoldable pub netGeneration : Content → ℤ
 netGeneration c = sumTo (zoneGeneration c) (length (c .zones))
 
-unfoldable pub proxyExport : Content → ℕ → ℤ
-proxyExport c i = atProxy (point c i .place) (point c i .export)
-
-unfoldable pub proxyExports : Content → ℤ
-proxyExports c = sumTo (proxyExport c) (length (c .points))
-
 unfoldable pub finalGeneration : Content → ℤ
-finalGeneration c = netGeneration c -ℤ proxyExports c
+finalGeneration c = netGeneration c -ℤ exports c Proxy
 
 -- G
 unfoldable pub grossOutput : Content → ℤ
 grossOutput c = sumTo (output c) (length (c .units))
 
--- Refusals 16 to 21
+-- what row 16 judges beside G: loads with losses
 unfoldable pub grossLoad : Content → ℤ
 grossLoad c = sumTo (totalLoad c) (length (c .zones))
 
--- 16: loads with losses, or outputs, sum above 2,000,000
-unfoldable pub grossAboveLimit : Content → Bool
-grossAboveLimit c = ltZ (pos 2000000) (grossLoad c) || ltZ (pos 2000000) (grossOutput c)
+-- no zone's figure is below zero
+unfoldable pub noneBelowZero : Content → (ℕ → ℤ) → Bool
+noneBelowZero c figure = allTo (λ z. leZ (pos 0) (figure z)) (length (c .zones))
 
--- a zone's figure is not below zero
-abbrev pub atLeastZero : (ℕ → ℤ) → ℕ → Bool
-atLeastZero f z = leZ (pos 0) (f z)
-
--- 17: a zone load below zero
-unfoldable pub zoneLoadBelowZero : Content → Bool
-zoneLoadBelowZero c = not (allTo (atLeastZero (zoneLoad c)) (length (c .zones)))
-
--- 18: final load zero or below
-unfoldable pub finalLoadNotAboveZero : Content → Bool
-finalLoadNotAboveZero c = leZ (finalLoad c) (pos 0)
-
--- 19: a zone generation below zero
-unfoldable pub zoneGenerationBelowZero : Content → Bool
-zoneGenerationBelowZero c = not (allTo (atLeastZero (zoneGeneration c)) (length (c .zones)))
-
-unfoldable pub isZero : ℤ → Bool
-isZero (pos zero) = true
-isZero (pos (suc n)) = false
-isZero (negsuc n) = false
-
--- 20: net generation zero
-unfoldable pub netGenerationZero : Content → Bool
-netGenerationZero c = isZero (netGeneration c)
-
--- 21: final generation below zero
-unfoldable pub finalGenerationBelowZero : Content → Bool
-finalGenerationBelowZero c = ltZ (finalGeneration c) (pos 0)
-
--- the first row met, downwards, or 0
+-- the first of refusals 16 to 21 that is met, downwards, or 0
 unfoldable pub balanceRow : Content → ℕ
 balanceRow c =
-    cond (grossAboveLimit c) 16
-    (cond (zoneLoadBelowZero c) 17
-    (cond (finalLoadNotAboveZero c) 18
-    (cond (zoneGenerationBelowZero c) 19
-    (cond (netGenerationZero c) 20
-    (cond (finalGenerationBelowZero c) 21 0)))))
+    row 16 (ltZ (pos 2000000) (grossLoad c) || ltZ (pos 2000000) (grossOutput c))
+    (row 17 (not (noneBelowZero c (zoneLoad c)))
+    (row 18 (leZ (finalLoad c) (pos 0))
+    (row 19 (not (noneBelowZero c (zoneGeneration c)))
+    (row 20 (eqb (natAbs (netGeneration c)) 0)
+    (row 21 (ltZ (finalGeneration c) (pos 0)) 0)))))

@@ -1,5 +1,5 @@
 -- Steps 3 to 6, from a target's generation-to-load flow to the market flow (5.4 to 5.7), and refusal 22. Flows are watts.
--- Rounded are only B, each target's generation-to-load flow and a class's carried flow, none of them before its sum is whole.
+-- Three figures are rounded, each after its own sum: a target's B and generation-to-load flow, and what a class of PARs carries.
 use Prim.Native.Nat.{ℕ, _+_}
 use mathlib.Core.Bool.{Bool, cond}
 use lib.Dec.{eqb}
@@ -8,39 +8,27 @@ use lib.ListN.{length}
 use Rattle.integers.specs.Sum.{sumTo}
 use Rattle.quotient.specs.Rounded.{quotient, remainder}
 use Rattle.rows.specs.Rows.{row, beyond}
+use Rattle.records.specs.Codes.{nyiso, common, noncommon, unitSubject, zoneSubject, pointSubject, parSubject}
 use Rattle.records.specs.Content.{Content, head, point, par, factorFor}
 use Rattle.figures.specs.Balance.{zoneLoad, netLoad, output, grossOutput, netGeneration, finalGeneration}
 
 -- Target 0 is the flowgate, target k the k-th PAR. Indices of units, zones, points and PARs start at 0, in a factor's record at 1
-unfoldable pub unitFactor : Content → ℕ → ℕ → ℤ
-unitFactor c target i = factorFor (c .factors) target 1 (i + 1)
-
-unfoldable pub zoneFactor : Content → ℕ → ℕ → ℤ
-zoneFactor c target i = factorFor (c .factors) target 2 (i + 1)
-
-unfoldable pub pointFactor : Content → ℕ → ℕ → ℤ
-pointFactor c target i = factorFor (c .factors) target 3 (i + 1)
+unfoldable pub factor : Content → ℕ → ℕ → ℕ → ℤ
+factor c target subject i = factorFor (c .factors) target subject (i + 1)
 
 unfoldable pub parFactor : Content → ℕ → ℤ
-parFactor c i = factorFor (c .factors) 0 4 (i + 1)
-
--- The types of points and the classes of PARs
-abbrev pub common : ℕ
-common = 1
-
-abbrev pub noncommon : ℕ
-noncommon = 2
+parFactor c i = factor c 0 parSubject i
 
 -- Step 3 (5.4), for a target
 unfoldable pub outputTerm : Content → ℕ → ℕ → ℤ
-outputTerm c target i = output c i *ℤ unitFactor c target i
+outputTerm c target i = output c i *ℤ factor c target unitSubject i
 
 -- A
 unfoldable pub weightedOutput : Content → ℕ → ℤ
 weightedOutput c target = sumTo (outputTerm c target) (length (c .units))
 
 unfoldable pub loadTerm : Content → ℕ → ℕ → ℤ
-loadTerm c target z = zoneLoad c z *ℤ zoneFactor c target z
+loadTerm c target z = zoneLoad c z *ℤ factor c target zoneSubject z
 
 -- N
 unfoldable pub weightedLoad : Content → ℕ → ℤ
@@ -77,7 +65,7 @@ netSchedule c i = pos (point c i .import) -ℤ pos (point c i .export)
 
 -- a point's flow on a target, if the point is of that type
 unfoldable pub scheduleTerm : Content → ℕ → ℕ → ℕ → ℤ
-scheduleTerm c type target i = cond (eqb (point c i .sort) type) (netSchedule c i *ℤ pointFactor c target i *ℤ pos 10) (pos 0)
+scheduleTerm c type target i = cond (eqb (point c i .sort) type) (netSchedule c i *ℤ factor c target pointSubject i *ℤ pos 10) (pos 0)
 
 unfoldable pub scheduleFlow : Content → ℕ → ℕ → ℤ
 scheduleFlow c type target = sumTo (scheduleTerm c type target) (length (c .points))
@@ -110,7 +98,7 @@ redirect c class = carried c class -ℤ control c class
 
 -- Step 6 (5.7). The non-common redirect is NYISO's alone
 unfoldable pub nyisoMonitors : Content → Bool
-nyisoMonitors c = eqb (head c .«monitoring_rto») 1
+nyisoMonitors c = eqb (head c .«monitoring_rto») nyiso
 
 unfoldable pub nonCommonRedirect : Content → ℤ
 nonCommonRedirect c = cond (nyisoMonitors c) (pos 0) (redirect c noncommon)
@@ -119,5 +107,8 @@ unfoldable pub marketFlow : Content → ℤ
 marketFlow c = generationToLoad c 0 +ℤ parallel c 0 +ℤ shadow c 0 -ℤ redirect c common -ℤ nonCommonRedirect c
 
 -- 22: the market flow is outside ±10,000,000,000 W
+abbrev pub mostFlow : ℕ
+mostFlow = 10000000000
+
 unfoldable pub flowRow : ℤ → ℕ
-flowRow market = row 22 (beyond 10000000000 market) 0
+flowRow market = row 22 (beyond mostFlow market) 0

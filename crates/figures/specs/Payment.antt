@@ -28,6 +28,6 @@ amountOf h d = quotient (d *ℤ price h d *ℤ pos (h .seconds)) (pos 3600000)
 unfoldable pub amount : Content → ℤ → ℤ
 amount c entitlement = amountOf (head c) (difference c entitlement)
 
--- The payment of an RTO (1 NYISO, 2 PJM), positive where it receives: the Monitoring RTO's is the amount, the other's its negative
+-- The payment of an RTO, positive where it receives: the Monitoring RTO's is the amount, the other's its negative
 unfoldable pub payment : Head → ℤ → ℕ → ℤ
 payment h amount rto = cond (eqb (h .«monitoring_rto») rto) amount (negℤ amount)

@@ -14,12 +14,13 @@ use Rattle.quotient.specs.declared.Quotient.{Quotient}
 use Rattle.quotient.specs.Rounded.{quotient, remainder}
 use Rattle.due_factors.specs.Due.{Asked, howMany}
 use Rattle.layout.specs.declared.Layout.{Layout}
+use Rattle.records.specs.Codes.{common, noncommon, unitSubject, zoneSubject, pointSubject, parSubject}
 use Rattle.records.specs.Content.{Content, par, factorFor}
-use Rattle.records.specs.Valid.{Valid}
+use Rattle.record_rows.specs.inner.Valid.{Valid}
 use Rattle.sheet.specs.Sheet.{contentOf}
 use Rattle.sheet.proofs.Accepted.{valid, counts}
 use Rattle.figures.specs.Balance.{balanceRow, netLoad, grossOutput, netGeneration, finalGeneration}
-use Rattle.figures.specs.Flow.{common, noncommon, weightedOutput, weightedLoad, firstDividend, loadShare, firstRemainder, grossFlow, secondDividend, generationToLoad, secondRemainder, scheduleFlow, parallel, shadow, parFactor, carriedSum, carried, redirect, nonCommonRedirect, marketFlow, flowRow}
+use Rattle.figures.specs.Flow.{weightedOutput, weightedLoad, firstDividend, loadShare, firstRemainder, grossFlow, secondDividend, generationToLoad, secondRemainder, scheduleFlow, parallel, shadow, factor, parFactor, carriedSum, carried, redirect, nonCommonRedirect, marketFlow, flowRow}
 use Rattle.figures.proofs.Bounds.{gross-output-small, net-load-small, net-generation-small, final-generation-small, weighted-output-small, weighted-load-small, load-share-small, first-remainder-small, generation-to-load-small, second-remainder-small, carried-sum-small, carried-small, redirect-small, non-common-redirect-small, market-flow-small}
 use Rattle.figures.proofs.Factors.{par-factor-within}
 use Rattle.figures.proofs.Ranges.{schedule-flow-within, control-within}
@@ -75,13 +76,13 @@ module _ {s : List ℕ} {l : Layout} {b : Balance} {plus minus : List ℕ} (r : 
 
   module _ {target : ℕ} (k : target ≤ l .pars) where
     -- A and N, as the sums return them
-    pub output : (a : ℤ) → a ≡ weightedSum (contentOf s) 1 0 target → Num (rd a) (weightedOutput (contentOf s) target) 20000000000
+    pub output : (a : ℤ) → a ≡ weightedSum (contentOf s) unitSubject 0 target → Num (rd a) (weightedOutput (contentOf s) target) 20000000000
     output a e = num-is a _ 20000000000 (e ∙ outputs-are (contentOf s) 0 target) (weighted-output-small is-valid no-row (known k)) (lit< tt)
 
-    pub load : (n : ℤ) → n ≡ weightedSum (contentOf s) 2 0 target → Num (rd n) (weightedLoad (contentOf s) target) 20000000000
+    pub load : (n : ℤ) → n ≡ weightedSum (contentOf s) zoneSubject 0 target → Num (rd n) (weightedLoad (contentOf s) target) 20000000000
     load n e = num-is n _ 20000000000 (e ∙ loads-are (contentOf s) 0 target) (weighted-load-small is-valid no-row (known k)) (lit< tt)
 
-    pub schedule-num : (class : ℕ) (x : ℤ) → x ≡ weightedSum (contentOf s) 3 class target → Num (rd x) (scheduleFlow (contentOf s) class target) 640000000000
+    pub schedule-num : (class : ℕ) (x : ℤ) → x ≡ weightedSum (contentOf s) pointSubject class target → Num (rd x) (scheduleFlow (contentOf s) class target) 640000000000
     schedule-num class x e = num-is x _ 640000000000 (e ∙ schedules-are (contentOf s) class target) (schedule-flow-within is-valid (known k) class) (lit< tt)
 
     pub gtl-num : (x : GenerationToLoad) → x ≡ gtlOf (contentOf s) target → Num (rd (x .flow)) (generationToLoad (contentOf s) target) 400000000000
@@ -94,7 +95,7 @@ module _ {s : List ℕ} {l : Layout} {b : Balance} {plus minus : List ℕ} (r : 
     second-num x e = num-is _ _ 2000000 (ap (λ (y : GenerationToLoad). y .«second_remainder») e) (second-remainder-small is-valid no-row (known k)) (lit< tt)
 
     -- B, as its quotient returns it
-    module _ {n : ℤ} (en : n ≡ weightedSum (contentOf s) 2 0 target) {q : Quotient} (dq : Divided q (pos 10 *ℤ rd (b .«gross_output») *ℤ rd n) (rd (b .«net_load»))) where
+    module _ {n : ℤ} (en : n ≡ weightedSum (contentOf s) zoneSubject 0 target) {q : Quotient} (dq : Divided q (pos 10 *ℤ rd (b .«gross_output») *ℤ rd n) (rd (b .«net_load»))) where
       pub share : Num (rd (q .quotient)) (loadShare (contentOf s) target) 200000000000
       unfolding loadShare firstDividend
       share =
@@ -106,7 +107,7 @@ module _ {s : List ℕ} {l : Layout} {b : Balance} {plus minus : List ℕ} (r : 
       first-is = dq .remainder ∙ rw (gross .is, load n en .is, net-load .is)
 
       -- the flow, as its quotient returns it
-      module _ {a : ℤ} (ea : a ≡ weightedSum (contentOf s) 1 0 target) {w : Quotient} (dw : Divided w ((pos 10 *ℤ rd a -ℤ rd (q .quotient)) *ℤ rd (b .«final_generation»)) (rd (b .«net_generation»))) where
+      module _ {a : ℤ} (ea : a ≡ weightedSum (contentOf s) unitSubject 0 target) {w : Quotient} (dw : Divided w ((pos 10 *ℤ rd a -ℤ rd (q .quotient)) *ℤ rd (b .«final_generation»)) (rd (b .«net_generation»))) where
         flow-is : w .quotient ≡ generationToLoad (contentOf s) target
         unfolding generationToLoad secondDividend grossFlow
         flow-is = dw .quotient ∙ rw (output a ea .is, share .is, final-generation .is, net-generation .is)
@@ -131,19 +132,19 @@ module _ {s : List ℕ} {l : Layout} {b : Balance} {plus minus : List ℕ} (r : 
     unfolding howMany
     par-asked = record { known = omega arith; low = lit≤ tt; high = lit≤ tt; par = λ e. refl; index = h }
 
-    module _ (g : GenerationToLoad) (x f : ℤ) (eg : g ≡ gtlOf (contentOf s) (i + 1)) (ex : x ≡ weightedSum (contentOf s) 3 noncommon (i + 1))
+    module _ (g : GenerationToLoad) (x f : ℤ) (eg : g ≡ gtlOf (contentOf s) (i + 1)) (ex : x ≡ weightedSum (contentOf s) pointSubject noncommon (i + 1))
         (ef : f ≡ factorFor (contentOf s .factors) 0 4 (i + 1)) where
       pub par-flow : Op (rd (g .flow) +ℤ rd x) (generationToLoad (contentOf s) (i + 1) +ℤ parallel (contentOf s) (i + 1)) 1040000000000
       unfolding parallel
       par-flow = add (gtl-num as-target g eg) (schedule-num as-target noncommon x ex) (lit< tt)
 
       pub par-share : Op (rd f *ℤ rd (rd (g .flow) +ℤ rd x)) (parShare (contentOf s) i) 10400000000000000
-      unfolding parFactor
+      unfolding parFactor factor
       par-share =
           mul (num-is f _ 10000 ef (par-factor-within is-valid i (omega (arith, counts s l (r .given .accepted) .pars))) (lit< tt)) (par-flow .num) (lit< tt)
 
   -- a class's redirect, from its carried sum and its control
-  pub redirect-op : (class : ℕ) (x : ℤ) (q : Quotient) (y : ℤ) → x ≡ carriedSum (contentOf s) class → q .quotient ≡ quotient (rd x) (pos 10000) → y ≡ weightedSum (contentOf s) 4 class 0 →
+  pub redirect-op : (class : ℕ) (x : ℤ) (q : Quotient) (y : ℤ) → x ≡ carriedSum (contentOf s) class → q .quotient ≡ quotient (rd x) (pos 10000) → y ≡ weightedSum (contentOf s) parSubject class 0 →
       Op (rd (q .quotient) -ℤ rd y) (redirect (contentOf s) class) 8640000000000
   unfolding redirect carried
   redirect-op class x q y ex eq ey =
@@ -158,7 +159,7 @@ module _ {s : List ℕ} {l : Layout} {b : Balance} {plus minus : List ℕ} (r : 
   noncommon-num x e = num-is x _ 8640000000000 e (non-common-redirect-small is-valid no-row) (lit< tt)
 
   -- the flowgate's figures, as the calls return them
-  module _ (g : GenerationToLoad) (x y z w : ℤ) (eg : g ≡ gtlOf (contentOf s) 0) (ex : x ≡ weightedSum (contentOf s) 3 noncommon 0) (ey : y ≡ weightedSum (contentOf s) 3 common 0)
+  module _ (g : GenerationToLoad) (x y z w : ℤ) (eg : g ≡ gtlOf (contentOf s) 0) (ex : x ≡ weightedSum (contentOf s) pointSubject noncommon 0) (ey : y ≡ weightedSum (contentOf s) pointSubject common 0)
       (ez : z ≡ redirect (contentOf s) common) (ew : w ≡ nonCommonRedirect (contentOf s)) where
     flowgate : 0 ≤ l .pars
     flowgate = omega arith

@@ -1,13 +1,10 @@
--- Absolute values, and bounds on them that travel with sums, differences and products. Assumes nothing.
-use mathlib.Core.Path.{_≡_, refl, ap}
+-- Absolute values of sums, differences and products, and bounds on them.
+use mathlib.Core.Path.{_≡_, refl}
 use Prim.Native.Nat.{ℕ, _+_, _*_, _≤_}
-use native.Mathlib.Nat.{mul-le-mul}
 use native.Mathlib.Omega.{arith}
 use lib.IntN.{ℤ, pos, negsuc, negℤ, natAbs, _+ℤ_, _-ℤ_, _*ℤ_}
-use lib.Signed.{_≤ℤ_, _<ℤ_}
-use Rattle.integers.specs.Within.{Within}
+use lib.Signed.{_≤ℤ_}
 use Rattle.integers.proofs.Parts.{up, dn, up-mul, dn-mul, up-neg, dn-neg, add-law, le-of, le-to}
-use Rattle.integers.proofs.Linear.{zarith}
 
 abs-is : (x : ℤ) → natAbs x ≡ up x + dn x
 abs-is (pos n) = omega arith
@@ -43,38 +40,7 @@ abs-neg x = omega (arith, abs-is x, abs-is (negℤ x), up-neg x, dn-neg x)
 pub abs-sub : (x y : ℤ) → natAbs (x -ℤ y) ≤ natAbs x + natAbs y
 abs-sub x y = omega (arith, abs-add x (negℤ y), abs-neg y)
 
--- a number that is not negative is its absolute value, and one that is negative the opposite of it
+-- a number that is not negative is its absolute value
 pub abs-pos : {x : ℤ} → pos 0 ≤ℤ x → x ≡ pos (natAbs x)
 abs-pos {x = pos n} h = refl
 abs-pos {x = negsuc n} h = absurd (h .le)
-
-pub abs-minus : {x : ℤ} → x <ℤ pos 0 → pos 0 -ℤ x ≡ pos (natAbs x)
-abs-minus {x = pos n} h = let e : ⊥ = omega zarith in absurd e
-abs-minus {x = negsuc n} h = ap pos (omega arith)
-
-pub within-lit : (k : ℕ) → Within (pos k) k
-within-lit k = record { abs = omega arith }
-
-pub within-add : {x y : ℤ} {a b : ℕ} → Within x a → Within y b → Within (x +ℤ y) (a + b)
-within-add {x} {y} h g = record { abs = omega (arith, abs-add x y) }
-
-pub within-sub : {x y : ℤ} {a b : ℕ} → Within x a → Within y b → Within (x -ℤ y) (a + b)
-within-sub {x} {y} h g = record { abs = omega (arith, abs-sub x y) }
-
-pub within-mul : {x y : ℤ} {a b : ℕ} → Within x a → Within y b → Within (x *ℤ y) (a * b)
-within-mul {x} {y} h g = record { abs = omega (arith, abs-mul x y, mul-le-mul (h .abs) (g .abs)) }
-
-pub within-neg : {x : ℤ} {a : ℕ} → Within x a → Within (negℤ x) a
-within-neg {x} h = record { abs = omega (arith, abs-neg x) }
-
-pub within-more : {x : ℤ} {a b : ℕ} → Within x a → a ≤ b → Within x b
-within-more {x} h g = record { abs = omega arith }
-
-pub within-of : {x : ℤ} {k : ℕ} → negℤ (pos k) ≤ℤ x → x ≤ℤ pos k → Within x k
-within-of h g = record { abs = abs-within h g }
-
-pub within-le : {x : ℤ} {k : ℕ} → Within x k → (negℤ (pos k) ≤ℤ x) × (x ≤ℤ pos k)
-within-le h = within (h .abs)
-
-pub within-pos : {n k : ℕ} → n ≤ k → Within (pos n) k
-within-pos h = record { abs = h }

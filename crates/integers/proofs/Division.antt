@@ -1,4 +1,4 @@
--- Division toward zero by a positive number: quotient and remainder, and what they fit. Assumes nothing.
+-- Division toward zero by a positive number: quotient and remainder, and what they fit.
 use mathlib.Core.Path.{_≡_, refl, ap}
 use Prim.Native.Nat.{ℕ, zero, suc, _/_, _<_, _≤_}
 use native.Mathlib.Nat.{div-add-mod', mod-lt, div-le-self}
@@ -8,7 +8,6 @@ use lib.Signed.{_<ℤ_, quotZ, remZ, mag, mag-rem}
 use mir.Syntax.{w64}
 use mir.Val.{SFits}
 use mir.ValLaws.{sfits-le}
-use Rattle.integers.proofs.Parts.{up-neg, dn-neg, lt-of}
 use Rattle.integers.proofs.Linear.{zin, zout, zarith}
 use Rattle.integers.proofs.Absolute.{abs-neg}
 
@@ -16,21 +15,6 @@ pub quot-rem : (n d : ℤ) → pos 0 <ℤ d → quotZ n d *ℤ d +ℤ remZ n d �
 quot-rem n (negsuc b) h = absurd (h .lt)
 quot-rem (pos a) (pos b) h = ap pos (div-add-mod' a b)
 quot-rem (negsuc a) (pos b) h = simp zin (simp zout (omega (arith, div-add-mod' (suc a) b)))
-
-pub rem-small : (n d : ℤ) → pos 0 <ℤ d → (negℤ d <ℤ remZ n d) × (remZ n d <ℤ d)
-rem-small n (negsuc b) h = absurd (h .lt)
-rem-small (pos a) (pos b) h =
-    let z : 0 < b = omega zarith in
-    (lt-of _ _ (simp (up-neg, dn-neg) (omega arith)), lt-of _ _ (omega (arith, mod-lt a z)))
-rem-small (negsuc a) (pos b) h =
-    let z : 0 < b = omega zarith in
-    (lt-of _ _ (simp (up-neg, dn-neg) (omega (arith, mod-lt (suc a) z))), lt-of _ _ (simp (up-neg, dn-neg) (omega arith)))
-
-pub abs-quot : (n d : ℤ) → natAbs (quotZ n d) ≤ natAbs n
-abs-quot (pos a) (pos b) = div-le-self a b
-abs-quot (pos a) (negsuc b) = rw abs-neg (div-le-self a (suc b))
-abs-quot (negsuc a) (pos b) = rw abs-neg (div-le-self (suc a) b)
-abs-quot (negsuc a) (negsuc b) = div-le-self (suc a) (suc b)
 
 pub abs-rem : (n d : ℤ) → pos 0 <ℤ d → natAbs (remZ n d) < natAbs d
 abs-rem n (negsuc b) h = absurd (h .lt)

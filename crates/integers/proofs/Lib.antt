@@ -1,3 +1,4 @@
+pub mod Cases
 pub mod Parts
 pub mod Ring
 pub mod Linear

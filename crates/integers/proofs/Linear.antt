@@ -1,4 +1,4 @@
--- Linear statements over the integers, taken to the naturals by `simp`. Assumes nothing.
+-- Linear statements over the integers, taken to the naturals by `simp`.
 use mathlib.Core.Path.{_≡_, refl, sym, ap, _∙_, subst}
 use mathlib.Core.Logic.{_↔_}
 use Prim.Native.Nat.{ℕ, zero, suc, _+_, _*_, _-_, _<_, _≤_}
@@ -7,7 +7,7 @@ use lib.IntN.{ℤ, pos, negsuc, negℤ, negℤ-negℤ, negℤ-+ℤ, _+ℤ_, _-�
 use mir.Syntax.{w64}
 use mir.Val.{SFits}
 use lib.Signed.{_≤ℤ_, _<ℤ_, leZ, ltZ}
-use Rattle.integers.proofs.Parts.{up, dn, up-pos, dn-pos, up-negsuc, dn-negsuc, up-neg, dn-neg, up-mul, dn-mul, add-law, eq-of, eq-to, le-of, le-to, lt-of, lt-to}
+use Rattle.integers.proofs.Parts.{up, dn, up-pos, dn-pos, up-neg, dn-neg, up-mul, dn-mul, add-law, eq-of, eq-to, le-of, le-to, lt-of, lt-to}
 use Rattle.integers.proofs.Ring.{*-assoc, *-distl, *-distr, neg-mull, neg-mulr, *-left-comm}
 
 -- a + z ≤ b + w

@@ -1,4 +1,4 @@
--- Signed arithmetic at i64: what each operation, cast and test asks, and what it gives. Assumes nothing.
+-- Signed arithmetic at i64: what each operation, cast and test asks, and what it gives.
 -- `Num p z B`: what the machine reads, p, is the number z, and z is within ±B. `Op m z B`: the operation m fits, and its result is a `Num`.
 use mathlib.Core.Path.{_≡_, refl, sym, ap, subst, _∙_}
 use mathlib.Core.Bool.{Bool, true, false}
@@ -13,7 +13,6 @@ use lib.Signed.{_≤ℤ_, _<ℤ_, leZ, ltZ, mag}
 use mir.Syntax.{Width, w16, w32, w64}
 use mir.Val.{SFits, ofZ, toZ, hbits}
 use mir.Facts.{toZ-ofZ, toZ-pos}
-use Rattle.integers.specs.Within.{Within}
 use Rattle.integers.proofs.Linear.{zarith}
 use Rattle.integers.proofs.Order.{le-or-lt}
 use Rattle.integers.proofs.Absolute.{abs-add, abs-sub, abs-mul}
@@ -29,15 +28,8 @@ abs-fits-at w z h = record { sfits = lt-of-le-of-lt (mag-abs z) h }
 pub abs-fits : (x : ℤ) → natAbs x < 2 ^ 63 → SFits w64 x
 abs-fits x h = abs-fits-at w64 x h
 
-pub fit-add : (x y : ℤ) → natAbs x + natAbs y < 2 ^ 63 → SFits w64 (x +ℤ y)
-fit-add x y h = abs-fits (x +ℤ y) (omega (arith, abs-add x y))
-
 pub fit-sub : (x y : ℤ) → natAbs x + natAbs y < 2 ^ 63 → SFits w64 (x -ℤ y)
 fit-sub x y h = abs-fits (x -ℤ y) (omega (arith, abs-sub x y))
-
--- at a literal bound, `within-fits h tt`
-pub within-fits : {x : ℤ} {k : ℕ} → Within x k → T (ltb k (2 ^ 63)) → SFits w64 x
-within-fits {x} {k} h t = abs-fits x (omega (arith, ltb→lt k (2 ^ 63) t))
 
 -- a divisor above zero has bits that are not zero
 pub ofZ-pos : {d : ℤ} → pos 0 <ℤ d → 0 < ofZ w64 d
@@ -72,19 +64,6 @@ le-false x y e = go (le-or-lt x y)
     go : (x ≤ℤ y) ⊎ (y <ℤ x) → y <ℤ x
     go (inl h) = absurd (true-is (leZ x y) (h .le) e)
     go (inr h) = h
-
--- the same of two numbers read from their bits. A literal's fit is `sfits-lit tt` of `mir.Facts`
-pub if-lt : {x y : ℤ} → SFits w64 x → SFits w64 y → ltZ (toZ w64 (ofZ w64 x)) (toZ w64 (ofZ w64 y)) ≡ true → x <ℤ y
-if-lt {x} {y} h g e = lt-true x y (rw (toZ-ofZ h, toZ-ofZ g) at e)
-
-pub if-not-lt : {x y : ℤ} → SFits w64 x → SFits w64 y → ltZ (toZ w64 (ofZ w64 x)) (toZ w64 (ofZ w64 y)) ≡ false → y ≤ℤ x
-if-not-lt {x} {y} h g e = lt-false x y (rw (toZ-ofZ h, toZ-ofZ g) at e)
-
-pub if-le : {x y : ℤ} → SFits w64 x → SFits w64 y → leZ (toZ w64 (ofZ w64 x)) (toZ w64 (ofZ w64 y)) ≡ true → x ≤ℤ y
-if-le {x} {y} h g e = le-true x y (rw (toZ-ofZ h, toZ-ofZ g) at e)
-
-pub if-not-le : {x y : ℤ} → SFits w64 x → SFits w64 y → leZ (toZ w64 (ofZ w64 x)) (toZ w64 (ofZ w64 y)) ≡ false → y <ℤ x
-if-not-le {x} {y} h g e = le-false x y (rw (toZ-ofZ h, toZ-ofZ g) at e)
 
 -- a number written to 64 bits and read again
 abbrev pub rd : ℤ → ℤ

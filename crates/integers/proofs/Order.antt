@@ -1,4 +1,4 @@
--- The order of the integers, with products and absolute values. Assumes nothing.
+-- The order of the integers, with products and absolute values.
 use mathlib.Core.Path.{_≡_, refl, sym, ap, _∙_, subst}
 use mathlib.Core.Logic.{_↔_, _⊎_, inl, inr}
 use Prim.Native.Nat.{ℕ, zero, suc, _+_, _*_, _-_, _<_, _≤_}

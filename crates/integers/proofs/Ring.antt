@@ -1,4 +1,4 @@
--- The ring laws of the integers. Assumes nothing.
+-- The ring laws of the integers.
 use mathlib.Core.Path.{_≡_, refl, sym, ap, _∙_, subst}
 use Prim.Native.Nat.{ℕ, zero, suc, _+_, _*_, _-_, _<_, _≤_}
 use native.Mathlib.Omega.{arith}
@@ -27,6 +27,3 @@ neg-mulr x y = eq-of _ _ (simp (up-neg, dn-neg, up-mul, dn-mul) (omega arith))
 
 pub *-left-comm : (x y z : ℤ) → x *ℤ (y *ℤ z) ≡ y *ℤ (x *ℤ z)
 *-left-comm x y z = eq-of _ _ (simp (up-mul, dn-mul) (omega arith))
-
-pub +-left-comm : (x y z : ℤ) → x +ℤ (y +ℤ z) ≡ y +ℤ (x +ℤ z)
-+-left-comm x y z = eq-of _ _ (omega (arith, add-law x (y +ℤ z), add-law y z, add-law y (x +ℤ z), add-law x z))

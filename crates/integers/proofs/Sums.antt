@@ -1,4 +1,4 @@
--- Sums over indices: a loop's next step, bounds, signs; tests over indices. Assumes nothing.
+-- Sums over indices: a loop's next step, bounds, signs; tests over indices.
 use mathlib.Core.Path.{_≡_, refl, sym, ap, _∙_}
 use mathlib.Core.Bool.{Bool, true, false, _&&_}
 use Prim.Native.Nat.{ℕ, zero, suc, _+_, _*_, _^_, _<_, _≤_}

@@ -1,4 +1,4 @@
--- Linear arithmetic over the integers, with a product of unknowns as an unknown of its own: `simp zi (simp zo (omega zarith))`. Assumes nothing.
+-- Linear arithmetic over the integers, with a product of unknowns as an unknown of its own: `simp zi (simp zo (omega zarith))`.
 -- The hypotheses stand in the goal, as arrows: bind the numbers alone. A hypothesis times a factor is a hypothesis of its own (`le-mul`, `le-mul-abs`, `ap`).
 use mathlib.Core.Logic.{_↔_}
 use Prim.Native.Nat.{ℕ, _+_, _*_, _<_, _≤_}
@@ -7,16 +7,12 @@ use lib.IntN.{ℤ, pos, negsuc, negℤ, natAbs, _+ℤ_, _-ℤ_, _*ℤ_}
 use lib.Signed.{_≤ℤ_, _<ℤ_}
 use Rattle.integers.proofs.Linear.{zin, zout, zarith}
 use Rattle.integers.proofs.Order.{abs-le, le-mul}
-use Rattle.integers.specs.Within.{Within}
-use Rattle.integers.proofs.Absolute.{within-le, within-of, within, abs-within}
-
-pub within-iff : (x : ℤ) (k : ℕ) → Within x k ↔ ((negℤ (pos k) ≤ℤ x) × (x ≤ℤ pos k))
-within-iff x k = (within-le, (λ h. within-of (h .0) (h .1)))
+use Rattle.integers.proofs.Absolute.{within, abs-within}
 
 pub abs-nat : (x : ℤ) (k : ℕ) → natAbs x ≤ k ↔ ((negℤ (pos k) ≤ℤ x) × (x ≤ℤ pos k))
 abs-nat x k = (within, (λ h. abs-within (h .0) (h .1)))
 
-pub ruleset zi = (within-iff, abs-nat, abs-le, zin)
+pub ruleset zi = (abs-nat, abs-le, zin)
 
 pub ruleset zo = zout
 

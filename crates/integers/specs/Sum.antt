@@ -1,4 +1,4 @@
--- Sums and tests over indices. Assumes nothing.
+-- Sums and tests over indices.
 use Prim.Native.Nat.{ℕ, zero, suc}
 use mathlib.Core.Bool.{Bool, true, _&&_}
 use lib.IntN.{ℤ, pos, _+ℤ_}

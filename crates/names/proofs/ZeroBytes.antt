@@ -9,7 +9,7 @@ use lib.Bits.{bitAnd, bitOr, and-block, or-block, and-le-r, or-lt, and-zero-r}
 use lib.Dec.{eqb, lit<}
 use Rattle.integers.specs.Sum.{allTo}
 use Rattle.integers.proofs.Sums.{all-at}
-use Rattle.fields.proofs.Laws.{equal-or}
+use Rattle.integers.proofs.Cases.{equal-or}
 use Rattle.names.specs.inner.Words.{noZero}
 
 -- k bytes of 127, and of 128

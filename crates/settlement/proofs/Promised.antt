@@ -12,8 +12,9 @@ use Rattle.integers.proofs.Tactic.{zi, zo}
 use Rattle.names.specs.Names.{sameList}
 use Rattle.layout.specs.Layout.{layoutOf}
 use Rattle.records.specs.declared.Head.{Head}
+use Rattle.records.specs.Codes.{nyiso, pjm}
 use Rattle.records.specs.Content.{Content}
-use Rattle.records.specs.Valid.{Valid, HeadFits}
+use Rattle.record_rows.specs.inner.Valid.{Valid, HeadFits}
 use Rattle.sheet.specs.Sheet.{Reading, holds, fails, reading, readSheet, contentOf}
 use Rattle.sheet.proofs.Accepted.{valid}
 use Rattle.sheet.proofs.Refusal.{refused-some}
@@ -59,8 +60,8 @@ passed row behind e = go (eqb row 0) refl e
 opposites : (x : ℤ) → x +ℤ negℤ x ≡ pos 0
 opposites x = simp zi (simp zo (omega zarith))
 
-payments-add : {h : Head} → HeadFits h → (a : ℤ) → payment h a 1 +ℤ payment h a 2 ≡ pos 0
-payments-add {h} f a = rw (payments-opposite f a) (opposites (payment h a 1))
+payments-add : {h : Head} → HeadFits h → (a : ℤ) → payment h a nyiso +ℤ payment h a pjm ≡ pos 0
+payments-add {h} f a = rw (payments-opposite f a) (opposites (payment h a nyiso))
 
 unless-adds : (row : ℕ) (behind : Statement) → behind .nyiso +ℤ behind .pjm ≡ pos 0 → unlessMet row behind .nyiso +ℤ unlessMet row behind .pjm ≡ pos 0
 unless-adds row behind h = go (eqb row 0)

@@ -4,18 +4,19 @@ use mathlib.Core.Bool.{cond}
 use mathlib.Core.List.{List}
 use lib.Dec.{eqb}
 use lib.IntN.{ℤ}
+use Rattle.records.specs.Codes.{nyiso, pjm, common}
 use Rattle.records.specs.Content.{Content, head}
 use Rattle.sheet.specs.Sheet.{Reading, holds, fails, reading}
 use Rattle.entitlements.specs.declared.Entitlement.{Entitlement}
 use Rattle.entitlements.specs.declared.Entitlement.the-variants as found
 use Rattle.entitlements.specs.Entitlements.{entitlement}
 use Rattle.figures.specs.Balance.{balanceRow}
-use Rattle.figures.specs.Flow.{common, generationToLoad, firstRemainder, secondRemainder, parallel, shadow, redirect, nonCommonRedirect, marketFlow, flowRow}
+use Rattle.figures.specs.Flow.{generationToLoad, firstRemainder, secondRemainder, parallel, shadow, redirect, nonCommonRedirect, marketFlow, flowRow}
 use Rattle.figures.specs.Payment.{inWatts, difference, price, amount, payment}
 use Rattle.statement.specs.declared.Statement.{Statement}
 use Rattle.statement.specs.Statement.{refusedAs}
 
--- the figures of the flowgate, target 0, at an entitlement in tenths of a MW. The RTOs are 1 NYISO, 2 PJM
+-- the figures of the flowgate, target 0, at an entitlement in tenths of a MW
 unfoldable pub figuresAt : Content → ℤ → Statement
 figuresAt c e = record {
   refusal = 0;
@@ -31,8 +32,8 @@ figuresAt c e = record {
   entitlement = inWatts e;
   price = price (head c) (difference c e);
   amount = amount c e;
-  nyiso = payment (head c) (amount c e) 1;
-  pjm = payment (head c) (amount c e) 2;
+  nyiso = payment (head c) (amount c e) nyiso;
+  pjm = payment (head c) (amount c e) pjm;
 }
 
 -- a stage answers the row that it met, or 0 and then what comes behind it

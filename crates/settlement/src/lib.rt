@@ -61,8 +61,8 @@ fn settle_balance(s: &[u8], l: layout::Layout, e: i64) -> Statement
     requires { ⌜ (readSheet (now s) ≡ Accepted l) × (natAbs e ≤ 100000) ⌝ }
     ensures { λ r. ⌜ r ≡ afterList (contentOf (now (s .entry))) e ⌝ }
 {
-    let loads = balance::by_zone(s, l, balance::LOADS, l.zones);
-    let imports = balance::by_zone(s, l, balance::IMPORTS, l.points);
+    let loads = balance::by_zone(s, l, balance::Ledger::Loads, l.zones);
+    let imports = balance::by_zone(s, l, balance::Ledger::Imports, l.points);
     let b = balance::balance_of(s, l, &loads, &imports);
     if b.row != 0 {
         return statement::refused(b.row);

@@ -15,13 +15,14 @@ use Rattle.integers.proofs.Sums.{sum-same}
 use Rattle.integers.proofs.Machine.{Op, rd, num-is, mul}
 use Rattle.due_factors.specs.Due.{Asked, howMany}
 use Rattle.layout.specs.declared.Layout.{Layout}
+use Rattle.records.specs.Codes.{unitSubject, zoneSubject, pointSubject, parSubject}
 use Rattle.records.specs.Content.{Content, point, par, factorFor}
-use Rattle.records.specs.Valid.{Valid}
+use Rattle.record_rows.specs.inner.Valid.{Valid}
 use Rattle.sheet.specs.declared.Outcome.the-variants.{Accepted}
 use Rattle.sheet.specs.Sheet.{readSheet, contentOf}
 use Rattle.sheet.proofs.Accepted.{valid, counts}
 use Rattle.figures.specs.Balance.{zoneLoad, output}
-use Rattle.figures.specs.Flow.{unitFactor, zoneFactor, pointFactor, parFactor, outputTerm, weightedOutput, loadTerm, weightedLoad, netSchedule, scheduleTerm, scheduleFlow, controlTerm, control}
+use Rattle.figures.specs.Flow.{factor, parFactor, outputTerm, weightedOutput, loadTerm, weightedLoad, netSchedule, scheduleTerm, scheduleFlow, controlTerm, control}
 use Rattle.figures.proofs.Numbers.{cond-within, times-within}
 use Rattle.figures.proofs.Ranges.{output-within, zone-load-within}
 use Rattle.weighted_sums.specs.inner.Weighted.{OnTarget, gapIn, powerOf, weightedTerm, members, weightedSum}
@@ -33,22 +34,22 @@ gap-times false x f = simp zi (simp zo (omega zarith))
 
 module _ (c : Content) (class target : ℕ) where
   -- A
-  pub outputs-are : weightedSum c 1 class target ≡ weightedOutput c target
-  unfolding weightedSum members howMany weightedTerm powerOf weightedOutput outputTerm unitFactor
+  pub outputs-are : weightedSum c unitSubject class target ≡ weightedOutput c target
+  unfolding weightedSum members howMany weightedTerm powerOf weightedOutput outputTerm
   outputs-are = refl
 
   -- N
-  pub loads-are : weightedSum c 2 class target ≡ weightedLoad c target
-  unfolding weightedSum members howMany weightedTerm powerOf weightedLoad loadTerm zoneFactor
+  pub loads-are : weightedSum c zoneSubject class target ≡ weightedLoad c target
+  unfolding weightedSum members howMany weightedTerm powerOf weightedLoad loadTerm
   loads-are = refl
 
-  pub schedules-are : weightedSum c 3 class target ≡ scheduleFlow c class target
-  unfolding weightedSum members howMany weightedTerm powerOf gapIn scheduleFlow scheduleTerm netSchedule pointFactor
-  schedules-are = sum-same _ _ (length (c .points)) (λ i l. gap-times (eqb (point c i .sort) class) (pos (point c i .import) -ℤ pos (point c i .export)) (factorFor (c .factors) target 3 (i + 1)))
+  pub schedules-are : weightedSum c pointSubject class target ≡ scheduleFlow c class target
+  unfolding weightedSum members howMany weightedTerm powerOf gapIn scheduleFlow scheduleTerm netSchedule
+  schedules-are = sum-same _ _ (length (c .points)) (λ i l. gap-times (eqb (point c i .sort) class) (pos (point c i .import) -ℤ pos (point c i .export)) (factor c target pointSubject i))
 
-pub control-is : (c : Content) (class : ℕ) → weightedSum c 4 class 0 ≡ control c class
+pub control-is : (c : Content) (class : ℕ) → weightedSum c parSubject class 0 ≡ control c class
 unfolding weightedSum members howMany weightedTerm powerOf gapIn control controlTerm parFactor
-control-is c class = sum-same _ _ (length (c .pars)) (λ i l. gap-times (eqb (par c i .class) class) (par c i .actual -ℤ par c i .target) (factorFor (c .factors) 0 4 (i + 1)))
+control-is c class = sum-same _ _ (length (c .pars)) (λ i l. gap-times (eqb (par c i .class) class) (par c i .actual -ℤ par c i .target) (factor c 0 parSubject i))
 
 gap-within : (of class : ℕ) (x y : ℤ) → natAbs x ≤ 200000 → natAbs y ≤ 200000 → natAbs (gapIn of class x y) ≤ 4000000
 unfolding gapIn
@@ -95,7 +96,7 @@ module _ (s : List ℕ) (l : Layout) (e : readSheet s ≡ Accepted l) where
     -- p is the power, f the factor, as the calls returned them
     pub term : (p f : ℤ) → p ≡ powerOf (contentOf s) subject class i → f ≡ factorFor (contentOf s .factors) target subject (i + 1) →
         Op (rd p *ℤ rd f) (weightedTerm (contentOf s) subject class target i) 104000000000
-    unfolding weightedTerm
+    unfolding weightedTerm factor
     term p f ep ef =
         mul (num-is p _ 10400000 ep (power-within (valid s l e) subject class i (rw (members-are subject) at (a .index))) (lit< tt))
         (num-is f _ 10000 ef factor-within (lit< tt)) (lit< tt)

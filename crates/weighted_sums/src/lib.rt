@@ -3,34 +3,21 @@ ghost use mathlib.Core.Path.{_≡_};
 ghost use Prim.Native.Nat.{_<_, _≤_};
 ghost use lib.IntN.{natAbs};
 ghost use Rattle.due_factors.specs.Due.{Asked, howMany};
+ghost use Rattle.records.specs.Codes.{unitSubject, pointSubject, parSubject};
 ghost use Rattle.sheet.specs.Sheet.{readSheet, contentOf};
 ghost use Rattle.sheet.specs.declared.Outcome.the-variants.{Accepted};
 ghost use Rattle.weighted_sums.specs.inner.Weighted.{Given, OnTarget, gapIn, powerOf, weightedTerm, weightedSum};
 
-// A factor's subjects.
-pub const UNIT: u8 = 1;
-
-pub const ZONE: u8 = 2;
-
-pub const POINT: u8 = 3;
-
-pub const PAR: u8 = 4;
-
-// A point's types, and a PAR's classes.
-pub const COMMON: u8 = 1;
-
-pub const NON_COMMON: u8 = 2;
-
 fn how_many(l: layout::Layout, subject: u8) -> usize
     ensures { λ r. ⌜ r ≡ howMany (l .zones) (l .units) (l .points) (l .pars) subject ⌝ }
 {
-    if subject == UNIT {
+    if subject == records::UNIT {
         return l.units;
     }
-    if subject == ZONE {
+    if subject == records::ZONE {
         return l.zones;
     }
-    if subject == POINT {
+    if subject == records::POINT {
         return l.points;
     }
     l.pars
@@ -49,7 +36,7 @@ fn gap_in(of: u8, class: u8, plus: i64, minus: i64) -> i64
 
 fn unit_power(s: &[u8], l: layout::Layout, class: u8, i: usize) -> i64
     requires { ⌜ (readSheet (now s) ≡ Accepted l) × (i < l .units) ⌝ }
-    ensures { λ r. ⌜ r ≡ powerOf (contentOf (now (s .entry))) 1 class i ⌝ }
+    ensures { λ r. ⌜ r ≡ powerOf (contentOf (now (s .entry))) unitSubject class i ⌝ }
 {
     let u = sheet::unit_at(s, l, i);
     u.output as i64
@@ -57,7 +44,7 @@ fn unit_power(s: &[u8], l: layout::Layout, class: u8, i: usize) -> i64
 
 fn point_power(s: &[u8], l: layout::Layout, class: u8, i: usize) -> i64
     requires { ⌜ (readSheet (now s) ≡ Accepted l) × (i < l .points) ⌝ }
-    ensures { λ r. ⌜ r ≡ powerOf (contentOf (now (s .entry))) 3 class i ⌝ }
+    ensures { λ r. ⌜ r ≡ powerOf (contentOf (now (s .entry))) pointSubject class i ⌝ }
 {
     let p = sheet::point_at(s, l, i);
     gap_in(p.sort, class, p.import as i64, p.export as i64)
@@ -65,7 +52,7 @@ fn point_power(s: &[u8], l: layout::Layout, class: u8, i: usize) -> i64
 
 fn par_power(s: &[u8], l: layout::Layout, class: u8, i: usize) -> i64
     requires { ⌜ (readSheet (now s) ≡ Accepted l) × (i < l .pars) ⌝ }
-    ensures { λ r. ⌜ r ≡ powerOf (contentOf (now (s .entry))) 4 class i ⌝ }
+    ensures { λ r. ⌜ r ≡ powerOf (contentOf (now (s .entry))) parSubject class i ⌝ }
 {
     let p = sheet::par_at(s, l, i);
     gap_in(p.class, class, p.actual as i64, p.target as i64)
@@ -83,13 +70,13 @@ fn power_of<'a>(
     requires { ⌜ Given (now s) l (now plus) (now minus) × (i < howMany (l .zones) (l .units) (l .points) (l .pars) subject) ⌝ }
     ensures { λ r. ⌜ r ≡ powerOf (contentOf (now (s .entry))) subject class i ⌝ }
 {
-    if subject == UNIT {
+    if subject == records::UNIT {
         return unit_power(s, l, class, i);
     }
-    if subject == ZONE {
+    if subject == records::ZONE {
         return balance::net_at(plus, minus, i);
     }
-    if subject == POINT {
+    if subject == records::POINT {
         return point_power(s, l, class, i);
     }
     par_power(s, l, class, i)

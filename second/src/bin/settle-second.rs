@@ -11,6 +11,6 @@ fn file(path: &str) -> Vec<u8> {
 }
 
 fn main() -> io::Result<()> {
-    let statement = settle(&file("sheet.bin"), &file("entitle.bin"));
-    io::stdout().write_all(&printed(&statement))
+    let answer = settle(&file("sheet.bin"), &file("entitle.bin"));
+    io::stdout().write_all(&printed(&answer))
 }

@@ -7,13 +7,13 @@ use mir.Facts.{toZ-ofZ}
 use mir.Syntax.{w64}
 use mir.Val.{SFits}
 use borrow.Author.Needs.{needs}
-use Rattle.records.specs.Valid.{Valid}
+use Rattle.record_rows.specs.inner.Valid.{Valid}
 use Rattle.sheet.specs.Sheet.{contentOf}
 use Rattle.sheet.proofs.Accepted.{valid, counts}
-use Rattle.balance.specs.inner.Ledger.{loads, outputs, imports, exports, bookings}
-use Rattle.balance.specs.inner.Balance.{rowOf}
+use Rattle.balance.specs.declared.Ledger.the-variants.{Loads, Outputs, Imports, Exports}
+use Rattle.balance.specs.inner.Ledger.{bookings}
 use Rattle.balance.proofs.Bookings.{small-of}
-use Rattle.balance.proofs.Rows.{load-side, generation-side, rows-are}
+use Rattle.balance.proofs.Sides.{load-side, generation-side}
 use Rattle.balance.proofs.balance_of.Statement.{statement}
 use Rattle.balance.proofs.balance_of.Tie as tie
 
@@ -34,22 +34,22 @@ by-zone-requires-2 c κs = let e = c .before .before .pre .0 in (e, counts _ _ e
 side-of-requires : tie.Need-side-of-requires
 side-of-requires c κs =
     let s = c .before .before .before in
-    (few-zones s, small-of _ (content-valid s) loads _ (s .pre .1), small-of _ (content-valid s) imports _ (s .pre .2))
+    (few-zones s, small-of _ (content-valid s) Loads _ (s .pre .1), small-of _ (content-valid s) Imports _ (s .pre .2))
 
 side-of-requires-2 : tie.Need-side-of-requires-2
 side-of-requires-2 c κs =
     let y = c .before .before .before in
     let x = y .before in
     let s = x .before .before in
-    (few-zones s, small-of _ (content-valid s) outputs _ (x .by-zone .ensures), small-of _ (content-valid s) exports _ (y .by-zone2 .ensures))
+    (few-zones s, small-of _ (content-valid s) Outputs _ (x .by-zone .ensures), small-of _ (content-valid s) Exports _ (y .by-zone2 .ensures))
 
-row-of-requires : tie.Need-row-of-requires
-row-of-requires c κs = search needs
+balance-row-requires : tie.Need-balance-row-requires
+balance-row-requires c κs = search needs
 
 load-fits : (c : tie.After-side-of) → SFits w64 (c .side-of .result .net)
 load-fits c = search needs
 
-generation-fits : (c : tie.After-side-of2) → SFits w64 (c .side-of2 .result .gross) × SFits w64 (c .side-of2 .result .net) × SFits w64 (c .side-of2 .result .last)
+generation-fits : (c : tie.After-side-of2) → SFits w64 (c .side-of2 .result .gross) × SFits w64 (c .side-of2 .result .net) × SFits w64 (c .side-of2 .result .«final_sum»)
 generation-fits c = search needs
 
 returns : tie.Need-returns
@@ -64,7 +64,7 @@ returns c =
     let el = rw z at (l .side-of .ensures) ∙ load-side _ (content-valid s) _ _ (s .pre .1) (s .pre .2) in
     let eg = rw z at (g .side-of2 .ensures) ∙ generation-side _ (content-valid s) _ _ (x .by-zone .ensures) (y .by-zone2 .ensures) in
     let f = generation-fits g in
-    rw (toZ-ofZ (load-fits l), toZ-ofZ (f .0), toZ-ofZ (f .1), toZ-ofZ (f .2), r .row-of .ensures, el, eg, rows-are)
+    rw (toZ-ofZ (load-fits l), toZ-ofZ (f .0), toZ-ofZ (f .1), toZ-ofZ (f .2), r .balance-row .ensures _ el eg, el, eg)
 
 pub balance-of-spec : {M : Type 1} → statement M
 balance-of-spec =
@@ -74,5 +74,5 @@ balance-of-spec =
     by-zone-requires-2
     side-of-requires
     side-of-requires-2
-    row-of-requires
+    balance-row-requires
     returns)

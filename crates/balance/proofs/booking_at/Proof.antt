@@ -1,78 +1,72 @@
 -- `booking_at` meets its contract.
-use mathlib.Core.Path.{_≡_, sym, ap, _∙_}
-use Prim.Native.Nat.{ℕ, _<_, _+_}
 use native.Mathlib.Omega.{arith}
 use borrow.Author.Needs.{needs}
-use borrow.Author.Tests.{eq-eqb, ne-eqb}
-use denote.Ref.{now}
-use lib.ListN.{length}
-use Rattle.sheet.specs.Sheet.{contentOf}
-use Rattle.sheet.proofs.Accepted.{valid, counts}
-use Rattle.balance.specs.inner.Ledger.{bookingOf, bookings}
+use Rattle.sheet.proofs.Accepted.{counts}
+use Rattle.balance.specs.inner.Ledger.{bookings}
 use Rattle.balance.proofs.booking_at.Statement.{statement}
 use Rattle.balance.proofs.booking_at.Tie as tie
 
--- the index is below the count of the ledger's own records
-in-zones : (c : tie.Then1) → c .before .before .args .i < length (contentOf (now (c .before .before .args .s)) .zones)
+enum-told : tie.Need-enum-told
+enum-told c = search needs
+
+load-booking-requires : tie.Need-load-booking-requires
 unfolding bookings
-in-zones c = rw (eq-eqb _ _ (c .if1 .taken)) at (c .before .before .pre .1)
+load-booking-requires c κs =
+    let p = c .before .before .before .pre in
+    (p .0, rw (counts _ _ (p .0) .zones) (rw (c .enum-told .given .1) at (p .1)))
 
-in-units : (c : tie.Then2) → let s = c .before .before .before in s .args .i < length (contentOf (now (s .args .s)) .units)
+enum-told-2 : tie.Need-enum-told-2
+enum-told-2 c = search needs
+
+output-booking-requires : tie.Need-output-booking-requires
 unfolding bookings
-in-units c = rw (ne-eqb _ _ (c .before .if1 .left), eq-eqb _ _ (c .if2 .taken)) at (c .before .before .before .pre .1)
+output-booking-requires c κs =
+    let p = c .before .before .before .pre in
+    (p .0, rw (counts _ _ (p .0) .units) (rw (c .enum-told2 .given .1) at (p .1)))
 
-in-points : (c : tie.Else2) → let s = c .before .before .before in s .args .i < length (contentOf (now (s .args .s)) .points)
+enum-told-3 : tie.Need-enum-told-3
+enum-told-3 c = search needs
+
+import-booking-requires : tie.Need-import-booking-requires
 unfolding bookings
-in-points c = rw (ne-eqb _ _ (c .before .if1 .left), ne-eqb _ _ (c .if2 .left)) at (c .before .before .before .pre .1)
+import-booking-requires c κs =
+    let p = c .before .before .before .pre in
+    (p .0, rw (counts _ _ (p .0) .points) (rw (c .enum-told3 .given .1) at (p .1)))
 
-zone-at-requires : tie.Need-zone-at-requires
-zone-at-requires c κs = let s = c .before .before in (s .pre .0, rw (counts _ _ (s .pre .0) .zones) (in-zones c))
+enum-told-4 : tie.Need-enum-told-4
+enum-told-4 c = search needs
 
-add-t8 : tie.Need-add-t8
-add-t8 c = let s = c .before .before .before in omega (arith, in-zones (c .before), valid _ _ (s .pre .0) .zones-most)
-
-add-t9 : tie.Need-add-t9
-add-t9 c =
-    let s = c .before .before .before .before in
-    let f = valid _ _ (s .pre .0) .zone-fits (s .args .i) (in-zones (c .before .before)) in
-    rw (c .before .zone-at .ensures) (omega (arith, f .load, f .losses))
+export-booking-requires : tie.Need-export-booking-requires
+unfolding bookings
+export-booking-requires c κs =
+    let p = c .before .before .before .pre in
+    (p .0, rw (counts _ _ (p .0) .points) (rw (c .enum-told4 .given .1) at (p .1)))
 
 returns : tie.Need-returns
-unfolding bookingOf
-returns c = rw (eq-eqb _ _ (c .before .before .if1 .taken), c .before .zone-at .ensures)
-
-unit-at-requires : tie.Need-unit-at-requires
-unit-at-requires c κs = let s = c .before .before .before in (s .pre .0, rw (counts _ _ (s .pre .0) .units) (in-units c))
-
-cast-t10 : tie.Need-cast-t10
-cast-t10 c = search needs
+returns c = rw (c .before .enum-told .given .1) (c .load-booking .ensures)
 
 returns-2 : tie.Need-returns-2
-unfolding bookingOf
-returns-2 c = rw (ne-eqb _ _ (c .before .before .before .if1 .left), eq-eqb _ _ (c .before .before .if2 .taken), c .before .unit-at .ensures)
-
-point-at-requires : tie.Need-point-at-requires
-point-at-requires c κs = let s = c .before .before .before in (s .pre .0, rw (counts _ _ (s .pre .0) .points) (in-points c))
-
-point-booking-requires : tie.Need-point-booking-requires
-point-booking-requires c κs = search needs
+returns-2 c = rw (c .before .enum-told2 .given .1) (c .output-booking .ensures)
 
 returns-3 : tie.Need-returns-3
-unfolding bookingOf
-returns-3 c =
-    rw (ne-eqb _ _ (c .before .before .before .if1 .left), ne-eqb _ _ (c .before .before .if2 .left), ← c .before .point-at .ensures) (c .point-booking .ensures)
+returns-3 c = rw (c .before .enum-told3 .given .1) (c .import-booking .ensures)
+
+returns-4 : tie.Need-returns-4
+returns-4 c = rw (c .before .enum-told4 .given .1) (c .export-booking .ensures)
 
 pub booking-at-spec : {M : Type 1} → statement M
 booking-at-spec =
     tie.close
     (tie.spec
-    zone-at-requires
-    add-t8
-    add-t9
+    enum-told
+    load-booking-requires
+    enum-told-2
+    output-booking-requires
+    enum-told-3
+    import-booking-requires
+    enum-told-4
+    export-booking-requires
     returns
-    unit-at-requires
-    cast-t10
     returns-2
-    point-at-requires
-    point-booking-requires
-    returns-3)
+    returns-3
+    returns-4)

@@ -1,52 +1,30 @@
 -- `net_at` meets its contract.
-use native.Mathlib.Omega.{arith}
-use Prim.Native.Nat.{_+_}
 use borrow.Author.Needs.{needs}
-use Rattle.balance.proofs.Laws.{net}
+use Rattle.integers.proofs.Machine.{Op, rd}
+use lib.IntN.{_-ℤ_}
+use denote.Ref.{now}
+use Rattle.balance.specs.inner.Ledger.{netAt}
+use Rattle.balance.proofs.Laws.{net-at-op}
 use Rattle.balance.proofs.net_at.Statement.{statement}
 use Rattle.balance.proofs.net_at.Tie as tie
 
-add-result : tie.Need-add-result
-add-result c = search needs
+amount-at-requires : tie.Need-amount-at-requires
+amount-at-requires c κs = search needs
 
-mul-result : tie.Need-mul-result
-mul-result c = search needs
+amount-at-requires-2 : tie.Need-amount-at-requires-2
+amount-at-requires-2 c κs = search needs
 
-element-copy-out-result : tie.Need-element-copy-out-result
-element-copy-out-result c = search needs
-
-cast-result : tie.Need-cast-result
-cast-result c = let s = c .before in omega (arith, s .pre .1 .most (s .args .z + 1) (omega arith))
-
-add-result-2 : tie.Need-add-result-2
-add-result-2 c = search needs
-
-mul-result-2 : tie.Need-mul-result-2
-mul-result-2 c = search needs
-
-element-copy-out-result-2 : tie.Need-element-copy-out-result-2
-element-copy-out-result-2 c = search needs
-
-cast-result-2 : tie.Need-cast-result-2
-cast-result-2 c = let s = c .before .before in omega (arith, s .pre .2 .most (s .args .z + 1) (omega arith))
+left : (c : tie.After-amount-at2) → let s = c .before .before in
+    Op (rd (c .before .amount-at .result) -ℤ rd (c .amount-at2 .result)) (netAt (now (s .args .plus)) (now (s .args .minus)) (s .args .z)) 2048000000
+left c =
+    let s = c .before .before in
+    net-at-op _ _ (s .pre .1) (s .pre .2) (s .args .z) (s .pre .0) _ _ (c .before .amount-at .ensures) (c .amount-at2 .ensures)
 
 sub-result : tie.Need-sub-result
-sub-result c = let s = c .before .before in net _ _ (s .pre .1) (s .pre .2) (s .args .z) (s .pre .0) .fits
+sub-result c = left c .fits
 
 returns : tie.Need-returns
-returns c = let s = c .before .before in net _ _ (s .pre .1) (s .pre .2) (s .args .z) (s .pre .0) .num .is
+returns c = left c .num .is
 
 pub net-at-spec : {M : Type 1} → statement M
-net-at-spec =
-    tie.close
-    (tie.spec
-    add-result
-    mul-result
-    element-copy-out-result
-    cast-result
-    add-result-2
-    mul-result-2
-    element-copy-out-result-2
-    cast-result-2
-    sub-result
-    returns)
+net-at-spec = tie.close (tie.spec amount-at-requires amount-at-requires-2 sub-result returns)

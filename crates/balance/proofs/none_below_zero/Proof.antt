@@ -12,14 +12,13 @@ use denote.Ref.{now}
 use borrow.Author.Needs.{needs}
 use Rattle.integers.specs.Sum.{allTo}
 use Rattle.integers.proofs.Sums.{all-zero, all-more, all-stop}
-use Rattle.figures.specs.Balance.{atLeastZero}
 use Rattle.balance.specs.inner.Ledger.{netAt}
 use Rattle.balance.proofs.Laws.{below, not-below}
 use Rattle.balance.proofs.none_below_zero.Statement.{statement}
 use Rattle.balance.proofs.none_below_zero.Tie as tie
 
 abbrev Inv-loop : tie.InvT-loop
-Inv-loop plus minus zones z₀ z = (z ≤ zones) × (allTo (atLeastZero (netAt plus minus)) z ≡ true)
+Inv-loop plus minus zones z₀ z = (z ≤ zones) × (allTo (λ i. leZ (pos 0) (netAt plus minus i)) z ≡ true)
 
 abbrev μ-loop : tie.MeasureT-loop
 μ-loop plus minus zones z₀ z = zones - z

@@ -10,60 +10,51 @@ use lib.ListN.{length, getD}
 use Rattle.integers.specs.Sum.{sumTo}
 use Rattle.records.specs.declared.Place.{Place}
 use Rattle.records.specs.declared.Place.the-variants.{Proxy, Line}
-use Rattle.records.specs.declared.Point.{Point}
 use Rattle.records.specs.Content.{Content, zone, unit, point}
 use Rattle.figures.specs.Balance.{zoneLoad}
 use Rattle.balance.specs.declared.Booking.{Booking}
-
--- the ledgers
-abbrev pub loads : ℕ
-loads = 0
-
-abbrev pub outputs : ℕ
-outputs = 1
-
-abbrev pub imports : ℕ
-imports = 2
-
-abbrev pub exports : ℕ
-exports = 3
+use Rattle.balance.specs.declared.Ledger.{Ledger}
+use Rattle.balance.specs.declared.Ledger.the-variants.{Loads, Outputs, Imports, Exports}
 
 unfoldable pub numberOf : Place → ℕ
 numberOf Proxy = 0
 numberOf (Line n) = n
 
-unfoldable pub pointBooking : Point → ℕ → Booking
-pointBooking p ledger = cond (eqb ledger imports) (record { number = numberOf (p .place); amount = p .import }) (record { number = numberOf (p .place); amount = p .export })
-
 -- an amount and the number at which it is booked: a zone's load with its losses at the zone, a unit's output at its zone, a point's import or export at its place
-unfoldable pub bookingOf : Content → ℕ → ℕ → Booking
-bookingOf c ledger i =
-    cond (eqb ledger loads) (record { number = i + 1; amount = zone c i .load + zone c i .losses })
-    (cond (eqb ledger outputs) (record { number = unit c i .zone; amount = unit c i .output })
-    (pointBooking (point c i) ledger))
+unfoldable pub bookingOf : Content → Ledger → ℕ → Booking
+bookingOf c Loads i = record { number = i + 1; amount = zone c i .load + zone c i .losses }
+bookingOf c Outputs i = record { number = unit c i .zone; amount = unit c i .output }
+bookingOf c Imports i = record { number = numberOf (point c i .place); amount = point c i .import }
+bookingOf c Exports i = record { number = numberOf (point c i .place); amount = point c i .export }
 
 -- how many bookings a ledger has
-unfoldable pub bookings : Content → ℕ → ℕ
-bookings c ledger = cond (eqb ledger loads) (length (c .zones)) (cond (eqb ledger outputs) (length (c .units)) (length (c .points)))
+unfoldable pub bookings : Content → Ledger → ℕ
+bookings c Loads = length (c .zones)
+bookings c Outputs = length (c .units)
+bookings c Imports = length (c .points)
+bookings c Exports = length (c .points)
 
 -- the i-th amount, if it is booked at n
-unfoldable pub bookedAt : Content → ℕ → ℕ → ℕ → ℤ
+unfoldable pub bookedAt : Content → Ledger → ℕ → ℕ → ℤ
 bookedAt c ledger n i = cond (eqb (bookingOf c ledger i .number) n) (pos (bookingOf c ledger i .amount)) (pos 0)
 
-unfoldable pub sumAt : Content → ℕ → ℕ → ℤ
+unfoldable pub sumAt : Content → Ledger → ℕ → ℤ
 sumAt c ledger n = sumTo (bookedAt c ledger n) (bookings c ledger)
 
 -- the sums of a ledger, by number
-pub record Sums (c : Content) (ledger : ℕ) (sums : List ℕ) : Type 0 where
+pub record Sums (c : Content) (ledger : Ledger) (sums : List ℕ) : Type 0 where
   pub sum : (n : ℕ) → n < 33 → pos (getD sums n 0) ≡ sumAt c ledger n
 
 -- no sum is above 256 amounts of 4,000,000
 pub record Small (sums : List ℕ) : Type 0 where
   pub most : (n : ℕ) → n < 33 → getD sums n 0 ≤ 1024000000
 
--- what one array has more than another at the zone of index z
+-- what an array has at the zone of index z, and what one has more than another
+unfoldable pub amountAt : List ℕ → ℕ → ℤ
+amountAt sums z = pos (getD sums (z + 1) 0)
+
 unfoldable pub netAt : List ℕ → List ℕ → ℕ → ℤ
-netAt plus minus z = pos (getD plus (z + 1) 0) -ℤ pos (getD minus (z + 1) 0)
+netAt plus minus z = amountAt plus z -ℤ amountAt minus z
 
 -- two arrays from which every zone load can be read: what a zone has of load and losses, and what comes in by its scheduled lines
 pub record ZoneLoads (c : Content) (plus minus : List ℕ) : Type 0 where

@@ -1,4 +1,4 @@
--- `be32_behind` meets its contract. Assumes nothing.
+-- `be32_behind` meets its contract.
 use Prim.Native.Nat.{_+_}
 use mathlib.Core.Path.{_≡_}
 use native.Mathlib.Omega.{arith}

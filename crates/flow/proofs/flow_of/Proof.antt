@@ -1,7 +1,7 @@
 -- `flow_of` meets its contract.
 use native.Mathlib.Omega.{arith}
 use borrow.Author.Needs.{needs}
-use Rattle.figures.specs.Flow.{common, noncommon}
+use Rattle.records.specs.Codes.{common, noncommon}
 use Rattle.flow.proofs.Laws.{read-within, gtl-num, schedule-num, redirect-num, noncommon-num, flow-of-is}
 use Rattle.flow.proofs.flow_of.Statement.{statement}
 use Rattle.flow.proofs.flow_of.Tie as tie

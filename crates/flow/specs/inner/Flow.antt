@@ -6,9 +6,10 @@ use lib.IntN.{ℤ, _+ℤ_, _*ℤ_}
 use Rattle.quotient.specs.declared.Quotient.{Quotient}
 use Rattle.quotient.specs.Rounded as rounded
 use Rattle.layout.specs.declared.Layout.{Layout}
+use Rattle.records.specs.Codes.{common}
 use Rattle.records.specs.Content.{Content}
 use Rattle.sheet.specs.Sheet.{contentOf}
-use Rattle.figures.specs.Flow.{common, parFactor, generationToLoad, firstRemainder, secondRemainder, parallel, shadow, redirect, nonCommonRedirect, marketFlow, flowRow}
+use Rattle.figures.specs.Flow.{parFactor, generationToLoad, firstRemainder, secondRemainder, parallel, shadow, redirect, nonCommonRedirect, marketFlow, flowRow}
 use Rattle.balance.specs.declared.Balance.{Balance}
 use Rattle.balance.specs.inner.Balance.{balanceOf}
 use Rattle.weighted_sums.specs.inner.Weighted.{Given}

@@ -1,4 +1,4 @@
--- `magnitude` meets its contract, at every i64. Assumes nothing.
+-- `magnitude` meets its contract, at every i64.
 use mathlib.Core.Path.{_≡_, refl, sym, ap, _∙_}
 use Prim.Native.Nat.{ℕ, suc, _-_, _<_, _^_}
 use native.Mathlib.Omega.{arith}

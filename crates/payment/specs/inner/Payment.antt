@@ -2,7 +2,9 @@
 use Prim.Native.Nat.{_≤_}
 use lib.IntN.{ℤ, natAbs, _-ℤ_}
 use Rattle.records.specs.declared.Head.{Head}
-use Rattle.records.specs.Valid.{HeadFits}
+use Rattle.records.specs.Codes.{nyiso, pjm}
+use Rattle.record_rows.specs.inner.Valid.{HeadFits}
+use Rattle.figures.specs.Flow.{mostFlow}
 use Rattle.figures.specs.Payment.{inWatts, price, amountOf, payment}
 use Rattle.payment.specs.declared.Payment.{Payment}
 
@@ -11,12 +13,12 @@ paymentOf h flow entitlement = record {
   entitlement = inWatts entitlement;
   price = price h (flow -ℤ inWatts entitlement);
   amount = amountOf h (flow -ℤ inWatts entitlement);
-  nyiso = payment h (amountOf h (flow -ℤ inWatts entitlement)) 1;
-  pjm = payment h (amountOf h (flow -ℤ inWatts entitlement)) 2;
+  nyiso = payment h (amountOf h (flow -ℤ inWatts entitlement)) nyiso;
+  pjm = payment h (amountOf h (flow -ℤ inWatts entitlement)) pjm;
 }
 
 -- what rows 9, 14 and 22 leave
 pub record Payable (h : Head) (flow entitlement : ℤ) : Type 0 where
   pub head-fits : HeadFits h
-  pub flow-most : natAbs flow ≤ 10000000000
+  pub flow-most : natAbs flow ≤ mostFlow
   pub entitlement-most : natAbs entitlement ≤ 100000

@@ -6,7 +6,7 @@ use borrow.Author.Needs.{needs}
 use Rattle.sheet.specs.Sheet.{contentOf}
 use Rattle.sheet.proofs.Accepted.{valid, counts}
 use Rattle.balance.specs.inner.Ledger.{bookings}
-use Rattle.balance.proofs.Rows.{zone-loads}
+use Rattle.balance.proofs.Sides.{zone-loads}
 use Rattle.settlement.proofs.Stages.{balance-refused, balance-passed}
 use Rattle.settlement.proofs.settle_balance.Statement.{statement}
 use Rattle.settlement.proofs.settle_balance.Tie as tie

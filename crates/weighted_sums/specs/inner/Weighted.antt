@@ -1,6 +1,6 @@
 -- The weighted sums of steps 3 to 5 in one form: what each record of a subject brings, times its factor on a target.
--- Subjects are a factor's: 1 unit, 2 zone, 3 point, 4 PAR. The class asked is a point's type or a PAR's class; units and zones have none.
-use Prim.Native.Nat.{ℕ, _+_, _≤_}
+-- Subjects are a factor's. The class asked is a point's type or a PAR's class; units and zones have none.
+use Prim.Native.Nat.{ℕ, _≤_}
 use mathlib.Core.Path.{_≡_}
 use mathlib.Core.Bool.{cond}
 use mathlib.Core.List.{List}
@@ -10,10 +10,12 @@ use lib.ListN.{length}
 use Rattle.integers.specs.Sum.{sumTo}
 use Rattle.due_factors.specs.Due.{howMany}
 use Rattle.layout.specs.declared.Layout.{Layout}
-use Rattle.records.specs.Content.{Content, point, par, factorFor}
+use Rattle.records.specs.Codes.{unitSubject, zoneSubject, pointSubject, parSubject}
+use Rattle.records.specs.Content.{Content, point, par}
 use Rattle.sheet.specs.declared.Outcome.the-variants.{Accepted}
 use Rattle.sheet.specs.Sheet.{readSheet, contentOf}
 use Rattle.figures.specs.Balance.{zoneLoad, output}
+use Rattle.figures.specs.Flow.{factor}
 use Rattle.balance.specs.inner.Ledger.{ZoneLoads}
 
 -- an accepted sheet with its layout, and two arrays from which its zone loads are read
@@ -26,7 +28,7 @@ pub record OnTarget (pars target subject : ℕ) : Type 0 where
   pub known : target ≤ pars
   pub low : 1 ≤ subject
   pub high : subject ≤ 4
-  pub par : subject ≡ 4 → target ≡ 0
+  pub par : subject ≡ parSubject → target ≡ 0
 
 -- ten times the difference of a record's two powers, if the record is of the class asked
 unfoldable pub gapIn : ℕ → ℕ → ℤ → ℤ → ℤ
@@ -35,13 +37,13 @@ gapIn of class plus minus = cond (eqb of class) ((plus -ℤ minus) *ℤ pos 10) 
 -- a unit's output, a zone's load, ten times a point's net schedule, ten times what a PAR's actual flow has more than its target
 unfoldable pub powerOf : Content → ℕ → ℕ → ℕ → ℤ
 powerOf c subject class i =
-    cond (eqb subject 1) (output c i)
-    (cond (eqb subject 2) (zoneLoad c i)
-    (cond (eqb subject 3) (gapIn (point c i .sort) class (pos (point c i .import)) (pos (point c i .export)))
+    cond (eqb subject unitSubject) (output c i)
+    (cond (eqb subject zoneSubject) (zoneLoad c i)
+    (cond (eqb subject pointSubject) (gapIn (point c i .sort) class (pos (point c i .import)) (pos (point c i .export)))
     (gapIn (par c i .class) class (par c i .actual) (par c i .target))))
 
 unfoldable pub weightedTerm : Content → ℕ → ℕ → ℕ → ℕ → ℤ
-weightedTerm c subject class target i = powerOf c subject class i *ℤ factorFor (c .factors) target subject (i + 1)
+weightedTerm c subject class target i = powerOf c subject class i *ℤ factor c target subject i
 
 -- how many records a subject has
 unfoldable pub members : Content → ℕ → ℕ

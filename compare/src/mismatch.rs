@@ -1,0 +1,58 @@
+//! What a comparison can find.
+
+use std::fmt::Display;
+
+/// An answer on which the sides differ, or that is not as accurate as demanded.
+#[derive(Debug)]
+pub struct Mismatch {
+    pub what: String,
+    /// Both answers, each behind the name of its side.
+    pub answers: [String; 2],
+}
+
+impl Mismatch {
+    pub fn of(what: &str, second: impl Display, tested: impl Display) -> Self {
+        Mismatch {
+            what: what.to_string(),
+            answers: [format!("second: {second}"), format!("tested: {tested}")],
+        }
+    }
+
+    /// An answer that is not the one that document 01 gives.
+    pub fn unexpected(expected: impl Display, side: &str, found: impl Display) -> Self {
+        Mismatch {
+            what: String::from("not as expected"),
+            answers: [format!("expected: {expected}"), format!("{side}: {found}")],
+        }
+    }
+}
+
+/// A mismatch with the input that shows it.
+#[derive(Debug)]
+pub struct Trouble {
+    pub mismatch: Mismatch,
+    /// How the input came about.
+    pub origin: String,
+    /// The input as readable text.
+    pub input: String,
+}
+
+impl Trouble {
+    /// A run that could not be made.
+    pub fn outside(what: &str, fault: impl Display) -> Box<Self> {
+        Box::new(Trouble {
+            mismatch: Mismatch::of(what, "", fault),
+            origin: String::new(),
+            input: String::new(),
+        })
+    }
+}
+
+impl Display for Trouble {
+    fn fmt(&self, f: &mut std::fmt::Formatter) -> std::fmt::Result {
+        writeln!(f, "MISMATCH: {}", self.mismatch.what)?;
+        writeln!(f, "# {}", self.origin)?;
+        writeln!(f, "{}", self.input)?;
+        write!(f, "{}", self.mismatch.answers.join("\n"))
+    }
+}

@@ -1,0 +1,235 @@
+//! The settlement of one interval, with its listing, its reading and its look-up.
+
+mod cases;
+mod check;
+mod directed;
+mod expected;
+mod faults;
+mod inputs;
+mod landmarks;
+mod one_record;
+mod program;
+
+use std::path::Path;
+
+use second::Refusal;
+
+use crate::chance::Chance;
+use crate::mismatch::{Mismatch, Trouble};
+use crate::questions::{Outcome, Question};
+use crate::sides::{Side, Sides};
+use crate::tally::Tally;
+use crate::text;
+use cases::Case;
+use check::Answer;
+use expected::Expected;
+use program::Program;
+
+/// The output buffer's length.
+#[derive(Clone, Copy, Debug)]
+pub enum Room {
+    Length(usize),
+    /// As long as the listing and this much more, or less.
+    Listing(i64),
+}
+
+#[derive(Clone, Debug)]
+pub struct Input {
+    pub sheet: Vec<u8>,
+    pub list: Vec<u8>,
+    pub room: Room,
+    /// How the input came about.
+    pub origin: String,
+}
+
+impl Input {
+    pub fn of(origin: &str, sheet: Vec<u8>, list: Vec<u8>) -> Self {
+        Input {
+            sheet,
+            list,
+            room: Room::Listing(40),
+            origin: origin.to_string(),
+        }
+    }
+
+    /// What the second implementation answers.
+    fn answer(&self) -> Answer {
+        second::settle(&self.sheet, &self.list)
+    }
+
+    /// The input as a case file that expects nothing yet.
+    fn text(&self) -> String {
+        let (sheet, list) = (text::sheet(&self.sheet), text::entitlements(&self.list));
+        let buffer = check::room(self, &self.answer());
+        format!("sheet\n{sheet}entitlements\n{list}buffer {buffer}\n")
+    }
+
+    fn trouble(&self, mismatch: Mismatch) -> Box<Trouble> {
+        Box::new(Trouble {
+            mismatch,
+            origin: self.origin.clone(),
+            input: self.text(),
+        })
+    }
+}
+
+/// The tally's groups.
+const ANSWERS: usize = 0;
+const LANDMARKS: usize = 1;
+const PAIRS: usize = 2;
+
+/// How many seeded inputs the program is run on.
+const PROGRAM_INPUTS: u64 = 400;
+
+pub struct Settle {
+    cases: Vec<Case>,
+    tally: Tally,
+}
+
+impl Settle {
+    /// With the case files below a folder.
+    pub fn with_cases(folder: &Path) -> Result<Self, String> {
+        let refusals = 1..=Refusal::LAST.number();
+        let answers = [String::from("accepted")]
+            .into_iter()
+            .chain(refusals.map(|number| format!("refused {number}")));
+        let pairs = one_record::pairs();
+        let pairs = pairs.iter().map(one_record::Pair::to_string);
+        Ok(Settle {
+            cases: cases::load(folder)?,
+            tally: Tally::default()
+                .with("answers", answers.collect(), true)
+                .with("landmarks", landmarks::names(), true)
+                .with("pairs of rows on one record", pairs.collect(), false),
+        })
+    }
+
+    /// Asks both sides and counts what was met.
+    fn ask(&mut self, sides: &Sides, input: &Input) -> Outcome {
+        let answer = input.answer();
+        let outcome = check::check(sides, input, &answer);
+        let refusal = outcome.map_err(|it| input.trouble(it))?;
+        self.tally.count();
+        self.tally.mark(ANSWERS, usize::from(refusal));
+        for landmark in landmarks::shown(input, &answer) {
+            self.tally.mark(LANDMARKS, landmark);
+        }
+        Ok(())
+    }
+
+    /// Holds both sides against what is expected, and then against each other.
+    fn expect(&mut self, sides: &Sides, input: &Input, expected: &[Expected]) -> Outcome {
+        let both: [(&dyn Side, &str); 2] = [(sides.second, "second"), (sides.tested, "tested")];
+        for (side, name) in both {
+            for expected in expected {
+                let met = expected.holds(side, name, input);
+                met.map_err(|it| input.trouble(it))?;
+            }
+        }
+        self.ask(sides, input)
+    }
+
+    fn case_files(&mut self, sides: &Sides) -> Outcome {
+        let cases = std::mem::take(&mut self.cases);
+        for case in &cases {
+            self.expect(sides, &case.input, &case.expected)?;
+            if case.every_truncation {
+                self.every_truncation(sides, &case.input)?;
+            }
+            if case.every_buffer {
+                self.every_buffer(sides, &case.input)?;
+            }
+        }
+        self.cases = cases;
+        Ok(())
+    }
+
+    fn every_truncation(&mut self, sides: &Sides, input: &Input) -> Outcome {
+        for (input, expected) in directed::truncations(input) {
+            self.expect(sides, &input, &expected)?;
+        }
+        Ok(())
+    }
+
+    /// Every buffer length from 0 to a little more than the listing's.
+    fn every_buffer(&mut self, sides: &Sides, input: &Input) -> Outcome {
+        for length in 0..check::listing_length(&input.answer()) + 20 {
+            let mut input = input.clone();
+            input.room = Room::Length(length);
+            self.ask(sides, &input)?;
+        }
+        Ok(())
+    }
+
+    /// Every kind of record with every set of rows that it can meet.
+    fn rows_on_one_record(&mut self, sides: &Sides, seed: u64) -> Outcome {
+        for (k, faulty) in (0..).zip(one_record::all()) {
+            let chance = &mut Chance::of(seed, u64::MAX - 1000 - k);
+            let (input, expected) = faulty.input(chance);
+            self.expect(sides, &input, &expected)?;
+            if let Some(pair) = faulty.pair() {
+                self.tally.mark(PAIRS, pair);
+            }
+        }
+        Ok(())
+    }
+
+    /// Every refusal by itself and with every other one, anywhere on the input.
+    fn rows_anywhere(&mut self, sides: &Sides, seed: u64) -> Outcome {
+        let last = Refusal::LAST.number();
+        for row in 1..=last {
+            for other in row..=last {
+                let chance = &mut Chance::of(seed, u64::MAX - 1);
+                self.ask(sides, &faults::planted(chance, &[row, other]))?;
+            }
+        }
+        Ok(())
+    }
+}
+
+impl Question for Settle {
+    fn name(&self) -> &'static str {
+        "settle"
+    }
+
+    fn directed(&mut self, sides: &Sides, seed: u64) -> Outcome {
+        self.case_files(sides)?;
+        for (input, expected) in directed::all(seed) {
+            self.expect(sides, &input, &expected)?;
+        }
+        self.rows_on_one_record(sides, seed)?;
+        self.rows_anywhere(sides, seed)?;
+        let longest = inputs::longest(&mut Chance::of(seed, u64::MAX));
+        for input in [&directed::sheet_s(), &longest] {
+            self.every_truncation(sides, input)?;
+            self.every_buffer(sides, input)?;
+        }
+        Ok(())
+    }
+
+    fn seeded(&mut self, sides: &Sides, seed: u64, k: u64) -> Outcome {
+        let mut input = inputs::input(seed, k);
+        input.origin = format!("seed {seed} input {k}: {}", input.origin);
+        self.ask(sides, &input)
+    }
+
+    fn program(&mut self, path: &Path, seed: u64) -> Outcome {
+        let what = format!("program {}", path.display());
+        let program = Program::at(path).map_err(|error| Trouble::outside(&what, error))?;
+        let mut runs = program.check_absent_files()?;
+        let cases = self.cases.iter().map(|case| case.input.clone());
+        let directed = directed::all(seed).into_iter().map(|(input, _)| input);
+        let seeded = (0..PROGRAM_INPUTS).map(|k| inputs::input(seed, k));
+        let inputs = cases.chain(directed).chain(seeded);
+        for input in inputs.chain(program::long_files()) {
+            program.check(&input).map_err(|it| input.trouble(it))?;
+            runs += 1;
+        }
+        println!("{what}: {runs} runs");
+        Ok(())
+    }
+
+    fn tally(&self) -> &Tally {
+        &self.tally
+    }
+}

@@ -1,0 +1,152 @@
+//! Figures as large as they can be: the longest listing, and what PARs carry.
+
+use second::layout::{ENTITLEMENTS, FACTORS, LOADS, MOST_PARS, PAR_FLOWS, SCHEDULES};
+use second::payment::LARGEST_FLOW;
+
+use crate::chance::Chance;
+use crate::interval::{Interval, Scale, Sizes, drawn};
+use crate::questions::settle::Expected;
+use crate::questions::settle::check::listing_length;
+use crate::questions::settle::directed::{Directed, with_entitlement};
+use crate::questions::settle::inputs::market;
+
+/// The longest listing that can be reached. Three bytes are missing to the sum of all
+/// lines at their longest: a second remainder of seven digits has the other sign than
+/// the flow, the redirects can't both be below -10^12 with a market flow in range, and
+/// an amount of 13 digits has market flow and entitlement on both sides of zero.
+pub const LONGEST_REACHED: usize = 285;
+
+pub fn all(chance: &mut Chance) -> Vec<Directed> {
+    let mut all = vec![longest_listing(chance)];
+    for sign in [1, -1] {
+        let aligned = carrying(chance, sign, sign);
+        let input = with_entitlement("what PARs carry, all of it", &aligned, 0);
+        all.push((input, vec![Expected::Refusal(22)]));
+        let opposed = in_range(carrying(chance, sign, -sign), 0);
+        let input = with_entitlement("what PARs carry, each class", &opposed, 0);
+        all.push((input, vec![Expected::Refusal(0)]));
+    }
+    all
+}
+
+/// Loads and outputs of 2,000,000 and no schedules, factors of zero.
+fn full(chance: &mut Chance, points: usize) -> Interval {
+    let sizes = Sizes {
+        zones: 2,
+        units: 2,
+        points,
+        pars: MOST_PARS,
+    };
+    let mut interval = drawn(chance, sizes, Scale::TINY);
+    let most = *LOADS.end() as u32;
+    interval.head.monitoring = 2;
+    interval.zones[0].load = most - 100_000;
+    interval.zones[1].load = 100_000;
+    for zone in &mut interval.zones {
+        zone.losses = 0;
+    }
+    interval.units[0].output = most;
+    interval.units[1].output = 0;
+    for (k, par) in interval.pars.iter_mut().enumerate() {
+        par.class = if k < MOST_PARS / 2 { 1 } else { 2 };
+        (par.actual, par.target) = (0, 0);
+    }
+    for point in &mut interval.points {
+        (point.place, point.import, point.export) = (0, 0, 0);
+    }
+    interval.flowgate.clear();
+    for factors in &mut interval.on_pars {
+        factors.clear();
+    }
+    interval
+}
+
+/// Eight PARs that carry as much as they can, the classes in these directions.
+fn carrying(chance: &mut Chance, common: i16, noncommon: i16) -> Interval {
+    let mut interval = full(chance, 10);
+    let whole = *FACTORS.end() as i16;
+    let most = *SCHEDULES.end() as u32;
+    for point in &mut interval.points {
+        (point.class, point.import) = (2, most);
+    }
+    // Final load must be above zero.
+    interval.points[0].import -= 1;
+    for factors in &mut interval.on_pars {
+        factors.units.fill(whole);
+        factors.zones.fill(-whole);
+        factors.points.fill(whole);
+    }
+    for (par, factor) in interval.pars.iter().zip(&mut interval.flowgate.pars) {
+        *factor = whole * if par.class == 1 { common } else { noncommon };
+    }
+    interval
+}
+
+/// Brings the market flow near to the wanted one by one PAR after the other.
+fn in_range(mut interval: Interval, wanted: i64) -> Interval {
+    let (least, most) = PAR_FLOWS.into_inner();
+    for k in 0..interval.pars.len() {
+        let missing = wanted - market(&interval.records().concat());
+        let step = i64::from(interval.flowgate.pars[k]) * 10;
+        if step != 0 {
+            let there = i64::from(interval.pars[k].actual) - i64::from(interval.pars[k].target);
+            let steps = there + missing / step;
+            let actual = steps.clamp(least, most);
+            interval.pars[k].actual = actual as i32;
+            interval.pars[k].target = (actual - steps).clamp(least, most) as i32;
+        }
+    }
+    interval
+}
+
+fn longest_listing(chance: &mut Chance) -> Directed {
+    let long = (0..10_000).map(|_| {
+        let interval = in_range(long_figures(chance), -LARGEST_FLOW.0);
+        let value = *ENTITLEMENTS.end() as i32;
+        with_entitlement("the longest listing", &interval, value)
+    });
+    let mut longest = long.filter(|input| listing_length(&input.answer()) == LONGEST_REACHED);
+    let longest = longest.next().expect("one of some dozens is the longest");
+    let market = Expected::Line(format!("market {}", -LARGEST_FLOW.0));
+    (longest, vec![Expected::Refusal(0), market])
+}
+
+/// Net load 2,000,000 and G x N so that the first quotient is a tie; five imports that
+/// are parallel flow and five exports that are shadow flow, each -10^11 W; seven PARs
+/// with whole factors and one with a factor of one ten-thousandth.
+fn long_figures(chance: &mut Chance) -> Interval {
+    let mut interval = full(chance, 10);
+    let whole = *FACTORS.end() as i16;
+    let most = *SCHEDULES.end() as u32;
+    interval.head.name = [0xff; 16];
+    interval.head.seconds = 900;
+    interval.head.prices = [400_000; 2];
+    let other = chance.within(1..=1_000) as u32;
+    interval.units[0].output -= other + 1;
+    interval.units[1].output = other;
+    for (k, point) in interval.points.iter_mut().enumerate() {
+        let import = k % 2 == 0;
+        point.class = if import { 2 } else { 1 };
+        (point.import, point.export) = if import { (most, 0) } else { (0, most) };
+        interval.flowgate.points[k] = if import { -whole } else { whole };
+    }
+    let zone = chance.within(9_000..=9_900) as i16 / 2 * 2;
+    interval.flowgate.zones = vec![zone, zone + 1];
+    interval.flowgate.units = vec![chance.within(-2_500..=-1_500) as i16, whole];
+    for (k, factors) in interval.on_pars.iter_mut().enumerate() {
+        factors.units.fill(whole - chance.below(3) as i16);
+        factors.zones.fill(-whole + chance.below(3) as i16);
+        for (point, factor) in interval.points.iter().zip(&mut factors.points) {
+            *factor = if point.class == 2 { whole } else { 0 };
+        }
+        let common = interval.pars[k].class == 1;
+        interval.flowgate.pars[k] = if common { -whole } else { whole };
+        if !common {
+            (interval.pars[k].actual, interval.pars[k].target) = (-200_000, 200_000);
+        }
+    }
+    // The fine lever.
+    let last = interval.pars.len() - 1;
+    interval.flowgate.pars[last] = 1;
+    interval
+}

@@ -1,0 +1,312 @@
+//! Situations that a comparison must not miss.
+
+use second::balance::{Balance, balance};
+use second::exact;
+use second::flow::{carried, market_flow};
+use second::fraction::Fraction;
+use second::layout::{Kind, LOADS, MOST_ENTITLEMENTS, MOST_UNITS, MOST_ZONES};
+use second::names::NameField;
+use second::payment::LARGEST_FLOW;
+use second::reader::read;
+use second::sheet::{Class, FLOWGATE, Place, Rto, Sheet};
+use second::units::AMOUNT_DIVISOR;
+use second::{Refusal, Statement, listing};
+
+use crate::crafted::share_a_bucket;
+use crate::questions::settle::Input;
+use crate::questions::settle::check::{Answer, records};
+use crate::questions::settle::directed::LONGEST_REACHED;
+
+const ACCEPTED: [&str; 31] = [
+    "first quotient a tie",
+    "second quotient a tie",
+    "what common PARs carry a tie",
+    "what non-common PARs carry a tie",
+    "amount a tie",
+    "difference zero",
+    "difference of one watt",
+    "market flow on the upper limit",
+    "market flow on the lower limit",
+    "market flow within 9 W of a limit",
+    "final generation zero",
+    "final load of one tenth",
+    "loads with losses of 2,000,000",
+    "outputs of 2,000,000",
+    "exact flow, remainders not zero",
+    "exact flow on the other side",
+    "market flow off by 3 W or more",
+    "market flow off by more than common PARs alone allow",
+    "amount off by more than the price taken allows",
+    "non-common PARs, NYISO monitors",
+    "non-common PARs, PJM monitors",
+    "eight non-common PARs, NYISO monitors",
+    "eight non-common PARs, PJM monitors",
+    "PARs of each class carry more than 2 x 10^16",
+    "a unit in zone 32 of 32",
+    "a line into zone 32 of 32",
+    "the longest sheet",
+    "the longest listing",
+    "256 units in one bucket",
+    "2,500 entries in one bucket",
+    "an entitlement of +-10,000 MW",
+];
+
+const REFUSED: [&str; 14] = [
+    "row 7 by the last of 256 units in one bucket",
+    "row 8 by a unit in zone 32 of 31",
+    "row 8 by a line into zone 32 of 31",
+    "row 14 by a repeat among 2,500 entries in one bucket",
+    "row 15 in a bucket of its name",
+    "row 16 by loads of 2,000,001",
+    "row 16 by outputs of 2,000,001",
+    "row 17 at the last of 32 zones alone",
+    "row 18 by a final load of zero",
+    "row 19 at the last of 32 zones alone",
+    "row 21 by one tenth",
+    "row 22 by 9 W or less above",
+    "row 22 by 9 W or less below",
+    "row 22, PARs carry more than 4.7 x 10^16",
+];
+
+/// The landmarks, in the order in which they are counted.
+pub fn names() -> Vec<String> {
+    let all = ACCEPTED.iter().chain(&REFUSED);
+    all.map(|name| name.to_string()).collect()
+}
+
+/// Which of the landmarks an input shows.
+pub fn shown(input: &Input, answer: &Answer) -> Vec<usize> {
+    let shown = |before: usize, shown: &[bool]| {
+        let places = shown.iter().enumerate().filter(|(_, shown)| **shown);
+        places.map(|(k, _)| before + k).collect()
+    };
+    match answer {
+        Ok(statement) => shown(0, &accepted(input, statement)),
+        Err(refusal) => shown(ACCEPTED.len(), &refused(input, *refusal)),
+    }
+}
+
+fn half(remainder: i64, divisor: i64) -> bool {
+    2 * remainder.abs() == divisor
+}
+
+/// The names of the list's entries.
+fn entry_names(list: &[u8]) -> Vec<NameField> {
+    let (entries, _) = list.as_chunks::<21>();
+    let name = |entry: &[u8; 21]| second::draft::name(&entry[1..17]);
+    entries.iter().map(name).collect()
+}
+
+fn full_bucket<'a>(names: impl Iterator<Item = &'a NameField> + Clone, count: usize) -> bool {
+    names.clone().count() == count && share_a_bucket(names)
+}
+
+fn accepted(input: &Input, statement: &Statement) -> [bool; ACCEPTED.len()] {
+    let sheet = &read(&input.sheet).expect("an accepted sheet is read");
+    let balance = &balance(sheet).expect("an accepted sheet is balanced");
+    let gtl = statement.flow.generation_to_load;
+    let market = statement.flow.market.0;
+    let difference = market - statement.entitlement.0;
+    let product = difference * statement.payment.price.0 * sheet.head.seconds.0;
+    let short = LARGEST_FLOW.0 - market.abs();
+    let remainders = (gtl.first_remainder.0, gtl.second_remainder.0);
+    let is_exact = || exact::generation_to_load(sheet, FLOWGATE) == Fraction::whole(gtl.flow.0);
+    let [common, noncommon] = [Class::Common, Class::NonCommon].map(|class| {
+        let count = sheet.pars.iter().filter(|par| par.class == class).count();
+        (count, carried(sheet, balance, class).0)
+    });
+    let pjm = sheet.head.monitoring == Rto::Pjm;
+    let [other_side, three, beyond_common, beyond_price] = accuracy(sheet, statement, common.0);
+    let units: Vec<NameField> = sheet.units.iter().map(|it| it.name.field()).collect();
+    let entries = entry_names(&input.list);
+    let last = |zone: usize| sheet.zones.len() == MOST_ZONES && zone == MOST_ZONES - 1;
+    [
+        half(remainders.0, balance.net_load.0),
+        half(remainders.1, balance.net_generation.0),
+        half(common.1 % 10_000, 10_000),
+        pjm && half(noncommon.1 % 10_000, 10_000),
+        half(product % AMOUNT_DIVISOR, AMOUNT_DIVISOR),
+        difference == 0,
+        difference.abs() == 1,
+        market == LARGEST_FLOW.0,
+        market == -LARGEST_FLOW.0,
+        (1..10).contains(&short),
+        balance.final_generation.0 == 0,
+        final_load(sheet, balance) == 1,
+        loads(sheet) == *LOADS.end(),
+        balance.outputs.0 == *LOADS.end(),
+        remainders != (0, 0) && is_exact(),
+        other_side,
+        three,
+        beyond_common,
+        beyond_price,
+        noncommon.0 > 0 && !pjm,
+        noncommon.0 > 0 && pjm,
+        noncommon.0 == 8 && !pjm,
+        noncommon.0 == 8 && pjm,
+        common.1.abs() > 20_000_000_000_000_000 && noncommon.1.abs() > 20_000_000_000_000_000,
+        sheet.units.iter().any(|unit| last(unit.zone.index())),
+        sheet.points.iter().any(|point| match point.place {
+            Place::Line(zone) => last(zone.index()),
+            Place::Proxy => false,
+        }),
+        input.sheet.len() == 27_748,
+        listing(statement).len() == LONGEST_REACHED,
+        full_bucket(units.iter(), MOST_UNITS),
+        full_bucket(entries.iter(), MOST_ENTITLEMENTS),
+        statement.entitlement.abs() == LARGEST_FLOW,
+    ]
+}
+
+/// On the other side, 3 W off, off by more than common PARs allow, and the amount by
+/// more than the price taken does.
+fn accuracy(sheet: &Sheet, statement: &Statement, common: usize) -> [bool; 4] {
+    let flow = exact::market_flow(sheet);
+    let market = statement.flow.market.0;
+    let error = (&Fraction::whole(market) - &flow).abs();
+    let entitlement = second::units::Power(statement.entitlement.0 / 100_000);
+    let difference = market - statement.entitlement.0;
+    let exact_side = (&flow - &Fraction::whole(statement.entitlement.0)).signum();
+    let amount = exact::amount(sheet, &flow, entitlement);
+    let amount_error = (&Fraction::whole(statement.payment.amount.0) - &amount).abs();
+    let worth = exact::flow_bound(sheet) * statement.payment.price.0 * sheet.head.seconds.0;
+    let by_taken = &Fraction::of(worth, AMOUNT_DIVISOR) + &Fraction::of(1, 2);
+    [
+        exact_side * difference.signum() < 0,
+        error >= Fraction::whole(3),
+        error > Fraction::whole(common as i64 + 2),
+        amount_error > by_taken,
+    ]
+}
+
+fn loads(sheet: &Sheet) -> i64 {
+    sheet.zones.iter().map(|it| (it.load + it.losses).0).sum()
+}
+
+fn outputs(sheet: &Sheet) -> i64 {
+    sheet.units.iter().map(|it| it.output.0).sum()
+}
+
+/// Imports, or exports, of all proxies.
+fn of_proxies(sheet: &Sheet, schedule: fn(&second::sheet::Point) -> i64) -> i64 {
+    let proxies = sheet.points.iter().filter(|it| it.place == Place::Proxy);
+    proxies.map(schedule).sum()
+}
+
+fn final_load(sheet: &Sheet, balance: &Balance) -> i64 {
+    balance.net_load.0 - of_proxies(sheet, |it| it.import.0)
+}
+
+fn refused(input: &Input, refusal: Refusal) -> [bool; REFUSED.len()] {
+    let mut shown = [false; REFUSED.len()];
+    match refusal {
+        Refusal::RepeatedName => shown[0] = in_a_full_bucket(&input.sheet),
+        Refusal::UnlistedCode => {
+            [shown[1], shown[2]] = in_zone_32_of_31(&input.sheet);
+        }
+        Refusal::FaultyList => {
+            shown[3] = full_bucket(entry_names(&input.list).iter(), MOST_ENTITLEMENTS);
+        }
+        Refusal::NoEntitlement => {
+            let mut names = entry_names(&input.list);
+            names.push(second::draft::name(&input.sheet[1..17]));
+            shown[4] = full_bucket(names.iter(), MOST_ENTITLEMENTS);
+        }
+        _ if refusal >= Refusal::TooMuchPower => {
+            if let Ok(sheet) = read(&input.sheet) {
+                shown[5..].copy_from_slice(&in_balance(&sheet, refusal));
+            }
+        }
+        _ => {}
+    }
+    shown
+}
+
+/// Whether the first 256 units share a bucket.
+fn in_a_full_bucket(sheet: &[u8]) -> bool {
+    let units = records(sheet).into_iter();
+    let units = units.filter(|record| record[0] == Kind::Unit as u8);
+    let names: Vec<NameField> = units.map(|it| second::draft::name(&it[1..17])).collect();
+    full_bucket(names.iter(), MOST_UNITS)
+}
+
+/// A unit, a line.
+fn in_zone_32_of_31(sheet: &[u8]) -> [bool; 2] {
+    let Err(refused) = read(sheet) else {
+        return [false; 2];
+    };
+    let records = records(sheet);
+    let zones = records
+        .iter()
+        .filter(|it| it[0] == Kind::Zone as u8)
+        .count();
+    let offending = records.into_iter().scan(0, |begin, record| {
+        *begin += record.len();
+        Some((*begin - record.len(), record))
+    });
+    let mut offending = offending.filter(|(place, _)| *place == refused.place);
+    let record = offending.next().map_or(&[][..], |(_, record)| record);
+    let is = |kind: Kind| record.first() == Some(&(kind as u8));
+    // Behind the name stand a unit's zone, and a point's type and place.
+    let (unit, line) = (record.get(17), record.get(18));
+    let last = Some(&(MOST_ZONES as u8));
+    let of_31 = zones == MOST_ZONES - 1;
+    [
+        of_31 && is(Kind::Unit) && unit == last,
+        of_31 && is(Kind::Point) && line == last,
+    ]
+}
+
+/// Each zone's load, and its generation.
+fn by_zone(sheet: &Sheet) -> [Vec<i64>; 2] {
+    let mut loads: Vec<i64> = sheet
+        .zones
+        .iter()
+        .map(|it| (it.load + it.losses).0)
+        .collect();
+    let mut generation = vec![0; loads.len()];
+    for unit in &sheet.units {
+        generation[unit.zone.index()] += unit.output.0;
+    }
+    for point in &sheet.points {
+        if let Place::Line(zone) = point.place {
+            loads[zone.index()] -= point.import.0;
+            generation[zone.index()] -= point.export.0;
+        }
+    }
+    [loads, generation]
+}
+
+fn in_balance(sheet: &Sheet, refusal: Refusal) -> [bool; REFUSED.len() - 5] {
+    let by_zone = by_zone(sheet);
+    let [net_load, net_generation] = [0, 1].map(|k| by_zone[k].iter().sum::<i64>());
+    let [in_loads, in_generation] = by_zone.map(|zones| {
+        let below: Vec<usize> = (0..zones.len()).filter(|k| zones[*k] < 0).collect();
+        below == [MOST_ZONES - 1]
+    });
+    let final_load = net_load - of_proxies(sheet, |it| it.import.0);
+    let final_generation = net_generation - of_proxies(sheet, |it| it.export.0);
+    let is = |row| refusal == row;
+    let mut beyond = [false; 3];
+    if let (true, Ok(balance)) = (is(Refusal::FlowOutOfRange), balance(sheet)) {
+        let market = market_flow(sheet, &balance).market.0;
+        let carried = carried(sheet, &balance, Class::Common).0.abs()
+            + carried(sheet, &balance, Class::NonCommon).0.abs();
+        beyond = [
+            (1..10).contains(&(market - LARGEST_FLOW.0)),
+            (1..10).contains(&(-market - LARGEST_FLOW.0)),
+            carried > 47_000_000_000_000_000,
+        ];
+    }
+    [
+        is(Refusal::TooMuchPower) && loads(sheet) == LOADS.end() + 1,
+        is(Refusal::TooMuchPower) && outputs(sheet) == LOADS.end() + 1,
+        is(Refusal::ZoneLoadBelowZero) && in_loads,
+        is(Refusal::NoFinalLoad) && final_load == 0,
+        is(Refusal::ZoneGenerationBelowZero) && in_generation,
+        is(Refusal::FinalGenerationBelowZero) && final_generation == -1,
+        beyond[0],
+        beyond[1],
+        beyond[2],
+    ]
+}

@@ -1,0 +1,323 @@
+//! Every kind of record with every set of rows that it can meet at once: the lowest of
+//! them refuses it.
+
+use std::fmt;
+
+use second::draft;
+use second::layout::{
+    Kind, LOADS, MOST_PARS, MOST_POINTS, MOST_UNITS, MOST_ZONES, PRICES, SCHEDULES,
+};
+use second::names::NameField;
+
+use crate::chance::Chance;
+use crate::interval::{Head, Interval, Par, Point, Record, Scale, Sizes, Unit, Zone, drawn};
+use crate::questions::settle::faults::{above, bad_name, beyond_par_flows};
+use crate::questions::settle::{Expected, Input};
+
+/// What is made faulty: the first record, or one behind sound ones.
+#[derive(Clone, Copy, Debug, PartialEq, Eq)]
+enum Site {
+    First,
+    Later(Kind),
+}
+
+impl Site {
+    const ALL: [Site; 7] = [
+        Site::First,
+        Site::Later(Kind::Head),
+        Site::Later(Kind::Zone),
+        Site::Later(Kind::Unit),
+        Site::Later(Kind::Point),
+        Site::Later(Kind::Par),
+        Site::Later(Kind::Factor),
+    ];
+
+    /// The rows that such a record can meet. A later head always meets 4.
+    fn rows(self) -> &'static [u8] {
+        match self {
+            Site::First => &[3, 6, 8, 9],
+            Site::Later(Kind::Head) => &[3, 4, 6, 8, 9],
+            Site::Later(Kind::Zone) => &[3, 4, 5, 6, 7, 9],
+            Site::Later(Kind::Factor) => &[3, 10, 11],
+            Site::Later(_) => &[3, 4, 5, 6, 7, 8, 9],
+        }
+    }
+
+    fn can_meet(self, rows: &[u8]) -> bool {
+        let met = |row| rows.contains(&row);
+        // An ill-formed name stands on no sound record before.
+        let apart = !(met(6) && met(7));
+        !rows.is_empty() && apart && (self != Site::Later(Kind::Head) || met(4))
+    }
+}
+
+/// Two rows on one record.
+pub struct Pair {
+    site: Site,
+    rows: [u8; 2],
+}
+
+impl fmt::Display for Pair {
+    fn fmt(&self, f: &mut fmt::Formatter) -> fmt::Result {
+        let [row, other] = self.rows;
+        write!(f, "{:?}: rows {row} and {other}", self.site)
+    }
+}
+
+pub fn pairs() -> Vec<Pair> {
+    let mut pairs = Vec::new();
+    for site in Site::ALL {
+        for (k, row) in site.rows().iter().enumerate() {
+            for other in &site.rows()[k + 1..] {
+                let rows = [*row, *other];
+                if site.can_meet(&rows) {
+                    pairs.push(Pair { site, rows });
+                }
+            }
+        }
+    }
+    pairs
+}
+
+/// A record that is to meet these rows and no other.
+pub struct Faulty {
+    site: Site,
+    rows: Vec<u8>,
+    /// Which of several code bytes or numbers is out of order.
+    variant: usize,
+}
+
+/// Twelve take every code byte of a record with every number of it.
+const VARIANTS: usize = 12;
+
+pub fn all() -> Vec<Faulty> {
+    let mut all = Vec::new();
+    for site in Site::ALL {
+        for set in 1..1 << site.rows().len() {
+            let chosen = site.rows().iter().enumerate();
+            let chosen = chosen.filter(|(k, _)| set & (1 << k) != 0);
+            let rows: Vec<u8> = chosen.map(|(_, row)| *row).collect();
+            if !site.can_meet(&rows) {
+                continue;
+            }
+            let variants = if rows.len() <= 2 { VARIANTS } else { 2 };
+            for variant in 0..variants {
+                let rows = rows.clone();
+                all.push(Faulty {
+                    site,
+                    rows,
+                    variant,
+                });
+            }
+        }
+    }
+    all
+}
+
+const EXTRA: NameField = *b"one more of them";
+
+impl Faulty {
+    fn meets(&self, row: u8) -> bool {
+        self.rows.contains(&row)
+    }
+
+    /// The place among all pairs, if these are two rows.
+    pub fn pair(&self) -> Option<usize> {
+        pairs()
+            .iter()
+            .position(|pair| pair.site == self.site && pair.rows[..] == self.rows)
+    }
+
+    pub fn input(&self, chance: &mut Chance) -> (Input, [Expected; 2]) {
+        let interval = self.interval(chance);
+        let mut records = interval.content();
+        let at = self.place(chance, &records);
+        let mut record = match self.site {
+            Site::First | Site::Later(Kind::Factor) => records.remove(at),
+            Site::Later(kind) => extra(kind, &interval),
+        };
+        for row in &self.rows {
+            self.plant(chance, &interval, &mut record, *row);
+        }
+        records.insert(at, record);
+        let bytes: Vec<Vec<u8>> = records.iter().map(Record::bytes).collect();
+        let place = bytes[..at].iter().map(Vec::len).sum();
+        let mut sheet = bytes.concat();
+        if self.meets(3) {
+            sheet.truncate(place + bytes[at].len() - 1);
+        } else if self.variant % 2 == 1 {
+            // A later record with a lower row loses.
+            sheet.push(0);
+        }
+        let origin = format!("{:?} made to meet {:?}", self.site, self.rows);
+        let list = draft::entitlement(interval.head.name, 0);
+        let lowest = self.rows[0];
+        let expected = [Expected::Refusal(lowest), Expected::Place(place)];
+        (Input::of(&origin, sheet, list), expected)
+    }
+
+    /// A sound interval with several of each kind, and all of this one for row 5.
+    fn interval(&self, chance: &mut Chance) -> Interval {
+        let mut count = |kind, most| match self.site {
+            Site::Later(site) if site == kind && self.meets(5) => most,
+            _ => 2 + chance.below(3),
+        };
+        let sizes = Sizes {
+            zones: count(Kind::Zone, MOST_ZONES),
+            units: count(Kind::Unit, MOST_UNITS),
+            points: count(Kind::Point, MOST_POINTS),
+            pars: count(Kind::Par, MOST_PARS),
+        };
+        drawn(chance, sizes, Scale::TINY)
+    }
+
+    /// Where the record goes: behind the last of its kind, or behind a later kind for
+    /// row 4.
+    fn place(&self, chance: &mut Chance, records: &[Record]) -> usize {
+        let kind = |record: &Record| record.bytes()[0];
+        let Site::Later(site) = self.site else {
+            return 0;
+        };
+        let later = records.iter().position(|it| kind(it) > site as u8);
+        let later = later.unwrap_or(records.len());
+        if site == Kind::Factor {
+            let first = records.iter().position(|it| kind(it) == site as u8);
+            let first = first.unwrap_or(0);
+            return first + chance.below(records.len() - first);
+        }
+        match self.meets(4) {
+            true if site == Kind::Head => 1 + chance.below(records.len()),
+            true => later + 1 + chance.below(records.len() - later),
+            false => later,
+        }
+    }
+
+    fn plant(&self, chance: &mut Chance, interval: &Interval, record: &mut Record, row: u8) {
+        match row {
+            6 => {
+                if let Some(name) = record.name_mut() {
+                    *name = bad_name(chance);
+                }
+            }
+            7 => {
+                let earlier = earlier_name(chance, interval, record);
+                if let Some(name) = record.name_mut() {
+                    *name = earlier;
+                }
+            }
+            8 => self.bad_code(chance, interval, record),
+            9 => self.bad_number(chance, record),
+            10 => self.not_due(chance, record),
+            11 => {
+                if let Record::Factor(it) = record {
+                    it.value = chance.pick(&[10_001, -10_001, i16::MAX, i16::MIN]);
+                }
+            }
+            _ => {}
+        }
+    }
+
+    fn bad_code(&self, chance: &mut Chance, interval: &Interval, record: &mut Record) {
+        let above = interval.zones.len() as u8 + 1;
+        let unlisted = chance.pick(&[0, 3, 255]);
+        let first = self.variant.is_multiple_of(2);
+        match record {
+            Record::Head(it) => it.monitoring = unlisted,
+            Record::Unit(it) => it.zone = if first { 0 } else { chance.pick(&[above, 255]) },
+            Record::Point(it) if first => it.class = unlisted,
+            Record::Point(it) => it.place = chance.pick(&[above, 255]),
+            Record::Par(it) => it.class = unlisted,
+            Record::Zone(_) | Record::Factor(_) => {}
+        }
+    }
+
+    fn bad_number(&self, chance: &mut Chance, record: &mut Record) {
+        let number = self.variant / 2;
+        let first = number.is_multiple_of(2);
+        match record {
+            Record::Head(it) => match number % 3 {
+                0 => it.seconds = chance.pick(&[0, 901, u16::MAX]),
+                price => it.prices[price - 1] = above(chance, &PRICES),
+            },
+            Record::Zone(it) if first => it.load = above(chance, &LOADS),
+            Record::Zone(it) => it.losses = above(chance, &LOADS),
+            Record::Unit(it) => it.output = above(chance, &LOADS),
+            Record::Point(it) if first => it.import = above(chance, &SCHEDULES),
+            Record::Point(it) => it.export = above(chance, &SCHEDULES),
+            Record::Par(it) if first => it.actual = beyond_par_flows(chance),
+            Record::Par(it) => it.target = beyond_par_flows(chance),
+            Record::Factor(_) => {}
+        }
+    }
+
+    fn not_due(&self, chance: &mut Chance, record: &mut Record) {
+        let Record::Factor(it) = record else { return };
+        match self.variant % 4 {
+            0 => it.target ^= chance.pick(&[1, 8, 128]),
+            1 => it.subject ^= chance.pick(&[1, 7, 128]),
+            2 => it.index ^= chance.pick(&[1, 3, 128]),
+            _ => it.index ^= chance.pick(&[0x100, 0x8000]),
+        }
+    }
+}
+
+/// A further record of a kind, sound by itself.
+fn extra(kind: Kind, interval: &Interval) -> Record {
+    let name = EXTRA;
+    match kind {
+        Kind::Head => Record::Head(Head {
+            name,
+            ..interval.head.clone()
+        }),
+        Kind::Zone => Record::Zone(Zone {
+            name,
+            load: 1,
+            losses: 0,
+        }),
+        Kind::Unit => Record::Unit(Unit {
+            name,
+            zone: 1,
+            output: 1,
+        }),
+        Kind::Point => Record::Point(Point {
+            name,
+            class: 1,
+            place: 0,
+            import: 0,
+            export: 0,
+        }),
+        Kind::Par | Kind::Factor => Record::Par(Par {
+            name,
+            class: 2,
+            actual: 1,
+            target: 0,
+        }),
+    }
+}
+
+fn earlier_name(chance: &mut Chance, interval: &Interval, record: &Record) -> NameField {
+    let names: Vec<NameField> = match record {
+        Record::Zone(_) => interval.zones.iter().map(|it| it.name).collect(),
+        Record::Unit(_) => interval.units.iter().map(|it| it.name).collect(),
+        Record::Point(_) => interval.points.iter().map(|it| it.name).collect(),
+        Record::Par(_) => interval.pars.iter().map(|it| it.name).collect(),
+        Record::Head(_) | Record::Factor(_) => vec![EXTRA],
+    };
+    chance.pick(&names)
+}
+
+#[cfg(test)]
+mod tests {
+    use super::*;
+
+    #[test]
+    fn all_pairs_are_among_the_sets() {
+        let all = all();
+        for pair in 0..pairs().len() {
+            assert!(all.iter().any(|faulty| faulty.pair() == Some(pair)));
+        }
+        let told: Vec<String> = pairs().iter().map(Pair::to_string).collect();
+        assert!(told.contains(&String::from("Later(Point): rows 8 and 9")));
+        assert!(!told.contains(&String::from("Later(Unit): rows 6 and 7")));
+    }
+}

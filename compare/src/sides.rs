@@ -1,0 +1,214 @@
+//! The two sides of the comparison answer the same questions, in plain numbers: what
+//! a side says is compared as it stands, sensible or not.
+
+use second::names::NameField;
+
+/// A statement; a refused one has the number and zeros everywhere else.
+#[derive(Clone, Copy, Debug, Default, PartialEq, Eq)]
+#[repr(C)]
+pub struct Figures {
+    /// 0 on an accepted one.
+    pub refusal: u8,
+    pub name: NameField,
+    pub gtl: i64,
+    pub first_remainder: i64,
+    pub second_remainder: i64,
+    pub parallel: i64,
+    pub shadow: i64,
+    pub common: i64,
+    pub noncommon: i64,
+    pub market: i64,
+    pub entitlement: i64,
+    pub price: i64,
+    pub amount: i64,
+    pub nyiso: i64,
+    pub pjm: i64,
+}
+
+impl Figures {
+    pub fn refused(refusal: u8) -> Self {
+        Figures {
+            refusal,
+            ..Figures::default()
+        }
+    }
+}
+
+/// The statement after row 23, and the listing's length, 0 with a refusal.
+#[derive(Clone, Copy, Debug, Default, PartialEq, Eq)]
+#[repr(C)]
+pub struct Printed {
+    pub figures: Figures,
+    pub length: usize,
+}
+
+/// Rows 1 to 13: the counts of a sheet that passes, or the number and place of the
+/// offending record and zeros.
+#[derive(Clone, Copy, Debug, Default, PartialEq, Eq)]
+#[repr(C)]
+pub struct ReadAnswer {
+    pub refusal: u8,
+    pub place: usize,
+    pub zones: usize,
+    pub units: usize,
+    pub points: usize,
+    pub pars: usize,
+    pub factors: usize,
+}
+
+/// Rows 14 and 15: the value in tenths of a MW, 0 with a refusal.
+#[derive(Clone, Copy, Debug, Default, PartialEq, Eq)]
+#[repr(C)]
+pub struct EntitlementAnswer {
+    pub refusal: u8,
+    pub value: i64,
+}
+
+pub trait Side {
+    fn settle(&self, sheet: &[u8], list: &[u8]) -> Figures;
+    fn report(&self, sheet: &[u8], list: &[u8], out: &mut [u8]) -> Printed;
+    fn read(&self, sheet: &[u8]) -> ReadAnswer;
+    fn entitlement(&self, list: &[u8], name: &NameField) -> EntitlementAnswer;
+}
+
+/// Rounded figures that are judged by the exact ones. For the flowgate and for each
+/// PAR that is known: target, generation-to-load flow and both remainders.
+#[derive(Clone, Debug)]
+pub struct Rounded {
+    pub targets: Vec<(usize, [i64; 3])>,
+    pub market: i64,
+    pub amount: i64,
+    /// In tenths of a MW.
+    pub entitlement: i64,
+}
+
+/// The side that the other is held against: it knows the exact figures too.
+pub trait Reference: Side {
+    /// Judges the accuracy of an accepted sheet's figures.
+    fn judge(&self, sheet: &[u8], rounded: &Rounded) -> Result<(), String>;
+}
+
+pub struct Sides<'a> {
+    pub second: &'a dyn Reference,
+    pub tested: &'a dyn Side,
+}
+
+/// A type that answers by the second implementation, or by a copy of its crate.
+#[macro_export]
+macro_rules! reference {
+    ($name:ident, $second:ident) => {
+        #[derive(Default)]
+        pub struct $name;
+
+        impl $name {
+            fn figures(
+                answer: Result<$second::Statement, $second::Refusal>,
+            ) -> $crate::sides::Figures {
+                match answer {
+                    Ok($second::Statement {
+                        name,
+                        flow,
+                        entitlement,
+                        payment,
+                    }) => $crate::sides::Figures {
+                        refusal: 0,
+                        name: name.field(),
+                        gtl: flow.generation_to_load.flow.0,
+                        first_remainder: flow.generation_to_load.first_remainder.0,
+                        second_remainder: flow.generation_to_load.second_remainder.0,
+                        parallel: flow.parallel.0,
+                        shadow: flow.shadow.0,
+                        common: flow.common_redirect.0,
+                        noncommon: flow.non_common_redirect.0,
+                        market: flow.market.0,
+                        entitlement: entitlement.0,
+                        price: payment.price.0,
+                        amount: payment.amount.0,
+                        nyiso: payment.nyiso.0,
+                        pjm: payment.pjm.0,
+                    },
+                    Err(refusal) => $crate::sides::Figures::refused(refusal.number()),
+                }
+            }
+        }
+
+        impl $crate::sides::Side for $name {
+            fn settle(&self, sheet: &[u8], list: &[u8]) -> $crate::sides::Figures {
+                Self::figures($second::settle(sheet, list))
+            }
+
+            fn report(&self, sheet: &[u8], list: &[u8], out: &mut [u8]) -> $crate::sides::Printed {
+                let answer = $second::report(sheet, list, out);
+                $crate::sides::Printed {
+                    figures: Self::figures(answer.map(|(statement, _)| statement)),
+                    length: answer.map_or(0, |(_, length)| length),
+                }
+            }
+
+            fn read(&self, sheet: &[u8]) -> $crate::sides::ReadAnswer {
+                match $second::reader::read(sheet) {
+                    Ok(sheet) => $crate::sides::ReadAnswer {
+                        refusal: 0,
+                        place: 0,
+                        zones: sheet.zones.len(),
+                        units: sheet.units.len(),
+                        points: sheet.points.len(),
+                        pars: sheet.pars.len(),
+                        factors: sheet.factor_records.len(),
+                    },
+                    Err(refused) => $crate::sides::ReadAnswer {
+                        refusal: refused.refusal.number(),
+                        place: refused.place,
+                        ..$crate::sides::ReadAnswer::default()
+                    },
+                }
+            }
+
+            fn entitlement(
+                &self,
+                list: &[u8],
+                name: &[u8; 16],
+            ) -> $crate::sides::EntitlementAnswer {
+                // A name that is not well formed stands in no list that passes row 14.
+                let other = || $second::Name::of([b'?'; 16]);
+                let sought = $second::Name::of(*name);
+                let is_name = sought.is_some();
+                let answer = sought.or_else(other).map(|it| {
+                    $second::entitlement::entitlement(list, it).map_err($second::Refusal::number)
+                });
+                match answer {
+                    Some(Ok(value)) if is_name => $crate::sides::EntitlementAnswer {
+                        refusal: 0,
+                        value: value.0,
+                    },
+                    Some(Err(refusal)) => $crate::sides::EntitlementAnswer { refusal, value: 0 },
+                    _ => $crate::sides::EntitlementAnswer {
+                        refusal: $second::Refusal::NoEntitlement.number(),
+                        value: 0,
+                    },
+                }
+            }
+        }
+
+        impl $crate::sides::Reference for $name {
+            fn judge(&self, sheet: &[u8], rounded: &$crate::sides::Rounded) -> Result<(), String> {
+                use $second::units::{Amount, Power, Remainder, Watts};
+                let sheet = $second::reader::read(sheet).map_err(|it| it.refusal.to_string())?;
+                let gtl = |[flow, first, second]: [i64; 3]| $second::flow::GenerationToLoad {
+                    flow: Watts(flow),
+                    first_remainder: Remainder(first),
+                    second_remainder: Remainder(second),
+                };
+                let targets = rounded.targets.iter();
+                let figures = $second::exact::Rounded {
+                    targets: targets.map(|(target, it)| (*target, gtl(*it))).collect(),
+                    market: Watts(rounded.market),
+                    amount: Amount(rounded.amount),
+                };
+                $second::exact::judge(&sheet, Power(rounded.entitlement), &figures)
+            }
+        }
+    };
+}
+
+reference!(Second, second);

@@ -1,0 +1,286 @@
+//! The reader of interval sheets: rows 1 to 13.
+
+use std::ops::RangeInclusive;
+
+use crate::layout::{
+    FACTORS, Fields, Kind, LOADS, MOST_PARS, MOST_POINTS, MOST_UNITS, MOST_ZONES, PAR_FLOWS,
+    PRICES, SCHEDULES, SECONDS,
+};
+use crate::names::{Name, NameField, NamesSeen};
+use crate::refusal::Refusal;
+use crate::sheet::{
+    Class, FACTOR_RECORD, Head, Par, Place, Point, Rto, Sheet, Subject, Unit, Zone, ZoneNumber,
+};
+use crate::units::{Power, Price, Seconds};
+
+/// A refused sheet.
+#[derive(Clone, Copy, Debug, PartialEq, Eq)]
+pub struct Refused {
+    pub refusal: Refusal,
+    /// Where the offending record begins: the sheet's length for rows 12 and 13.
+    pub place: usize,
+}
+
+impl From<Refused> for Refusal {
+    fn from(refused: Refused) -> Refusal {
+        refused.refusal
+    }
+}
+
+/// Reads a sheet: its content, or the first faulty record's first row.
+pub fn read(bytes: &[u8]) -> Result<Sheet<'_>, Refused> {
+    let at = |place| move |refusal| Refused { refusal, place };
+    let mut reader = Reader::open(bytes).map_err(at(0))?;
+    while reader.place < bytes.len() {
+        reader.record().map_err(at(reader.place))?;
+    }
+    reader.end().map_err(at(bytes.len()))
+}
+
+/// The factors due, in their order: each is target, subject and index as they
+/// stand in a factor's record.
+struct Due {
+    counts: [usize; 4],
+    target: usize,
+    subject: usize,
+    index: usize,
+}
+
+impl Due {
+    fn by(sheet: &Sheet) -> Self {
+        Due {
+            counts: sheet.counts(),
+            target: 0,
+            subject: Subject::Unit as usize,
+            index: 0,
+        }
+    }
+}
+
+impl Iterator for Due {
+    type Item = [u8; 4];
+
+    fn next(&mut self) -> Option<[u8; 4]> {
+        let [.., pars] = self.counts;
+        self.index += 1;
+        while self.index > self.counts[self.subject - 1] {
+            self.index = 1;
+            self.subject += 1;
+            // PARs have factors on the flowgate only.
+            if self.subject > if self.target == 0 { 4 } else { 3 } {
+                self.subject = 1;
+                self.target += 1;
+            }
+            if self.target > pars {
+                return None;
+            }
+        }
+        let [high, low] = (self.index as u16).to_be_bytes();
+        Some([self.target as u8, self.subject as u8, high, low])
+    }
+}
+
+struct Reader<'a> {
+    bytes: &'a [u8],
+    /// Where the record at hand begins.
+    place: usize,
+    /// The kind of the record before.
+    kind: Kind,
+    names: NamesSeen,
+    due: Option<Due>,
+    sheet: Sheet<'a>,
+}
+
+impl<'a> Reader<'a> {
+    /// Reads the first record.
+    fn open(bytes: &'a [u8]) -> Result<Self, Refusal> {
+        if bytes.first() != Some(&(Kind::Head as u8)) {
+            return Err(Refusal::NoHead);
+        }
+        let body = body_of(Kind::Head, bytes)?;
+        Ok(Reader {
+            bytes,
+            place: 1 + body.len(),
+            kind: Kind::Head,
+            names: NamesSeen::expecting(MOST_UNITS),
+            due: None,
+            sheet: Sheet {
+                head: head(Fields::of(body))?,
+                zones: Vec::new(),
+                units: Vec::new(),
+                points: Vec::new(),
+                pars: Vec::new(),
+                factor_records: &[],
+            },
+        })
+    }
+
+    /// Reads one record after the first and moves on to the next.
+    fn record(&mut self) -> Result<(), Refusal> {
+        let rest = &self.bytes[self.place..];
+        let kind = Kind::of(rest[0]).ok_or(Refusal::UnknownKind)?;
+        let body = body_of(kind, rest)?;
+        if kind < self.kind || kind == Kind::Head {
+            return Err(Refusal::OutOfOrder);
+        }
+        if kind > self.kind {
+            self.kind = kind;
+            self.names.clear();
+        }
+        let fields = Fields::of(body);
+        match kind {
+            Kind::Zone => self.zone(fields)?,
+            Kind::Unit => self.unit(fields)?,
+            Kind::Point => self.point(fields)?,
+            Kind::Par => self.par(fields)?,
+            _ => self.factor(fields)?,
+        }
+        self.place += 1 + body.len();
+        Ok(())
+    }
+
+    fn zone(&mut self, mut fields: Fields) -> Result<(), Refusal> {
+        room(self.sheet.zones.len(), MOST_ZONES)?;
+        let name = self.new_name(fields.bytes())?;
+        let load = power(fields.unsigned_4(), LOADS)?;
+        let losses = power(fields.unsigned_4(), LOADS)?;
+        self.sheet.zones.push(Zone { name, load, losses });
+        Ok(())
+    }
+
+    fn unit(&mut self, mut fields: Fields) -> Result<(), Refusal> {
+        room(self.sheet.units.len(), MOST_UNITS)?;
+        let name = self.new_name(fields.bytes())?;
+        let zone = self.zone_number(fields.byte())?;
+        let output = power(fields.unsigned_4(), LOADS)?;
+        self.sheet.units.push(Unit { name, zone, output });
+        Ok(())
+    }
+
+    fn point(&mut self, mut fields: Fields) -> Result<(), Refusal> {
+        room(self.sheet.points.len(), MOST_POINTS)?;
+        let name = self.new_name(fields.bytes())?;
+        let class = class(fields.byte())?;
+        let place = match fields.byte() {
+            0 => Place::Proxy,
+            zone => Place::Line(self.zone_number(zone)?),
+        };
+        let import = power(fields.unsigned_4(), SCHEDULES)?;
+        let export = power(fields.unsigned_4(), SCHEDULES)?;
+        self.sheet.points.push(Point {
+            name,
+            class,
+            place,
+            import,
+            export,
+        });
+        Ok(())
+    }
+
+    fn par(&mut self, mut fields: Fields) -> Result<(), Refusal> {
+        room(self.sheet.pars.len(), MOST_PARS)?;
+        let name = self.new_name(fields.bytes())?;
+        let class = class(fields.byte())?;
+        let actual = power(fields.signed_4(), PAR_FLOWS)?;
+        let target = power(fields.signed_4(), PAR_FLOWS)?;
+        self.sheet.pars.push(Par {
+            name,
+            class,
+            actual,
+            target,
+        });
+        Ok(())
+    }
+
+    fn factor(&mut self, mut fields: Fields) -> Result<(), Refusal> {
+        let due = self.due.get_or_insert_with(|| Due::by(&self.sheet));
+        if due.next().is_none_or(|due| due != fields.bytes()) {
+            return Err(Refusal::FactorNotDue);
+        }
+        if !FACTORS.contains(&fields.signed_2()) {
+            return Err(Refusal::FactorOutOfRange);
+        }
+        // Factors end the sheet, so their records lie side by side.
+        let first = self.place - self.sheet.factor_records.len() * FACTOR_RECORD;
+        let records = &self.bytes[first..self.place + FACTOR_RECORD];
+        self.sheet.factor_records = records.as_chunks().0;
+        Ok(())
+    }
+
+    /// Rows 6 and 7.
+    fn new_name(&mut self, field: NameField) -> Result<Name, Refusal> {
+        let name = name(field)?;
+        match self.names.note(name) {
+            true => Ok(name),
+            false => Err(Refusal::RepeatedName),
+        }
+    }
+
+    fn zone_number(&self, number: u8) -> Result<ZoneNumber, Refusal> {
+        if number == 0 || usize::from(number) > self.sheet.zones.len() {
+            return Err(Refusal::UnlistedCode);
+        }
+        Ok(ZoneNumber(number))
+    }
+
+    /// Rows 12 and 13.
+    fn end(self) -> Result<Sheet<'a>, Refusal> {
+        if self.sheet.zones.is_empty() || self.sheet.units.is_empty() {
+            return Err(Refusal::NothingToSettle);
+        }
+        let mut due = self.due.unwrap_or_else(|| Due::by(&self.sheet));
+        match due.next() {
+            Some(_) => Err(Refusal::FactorsStillDue),
+            None => Ok(self.sheet),
+        }
+    }
+}
+
+/// The body of the record that opens these bytes.
+fn body_of(kind: Kind, bytes: &[u8]) -> Result<&[u8], Refusal> {
+    bytes.get(1..1 + kind.body()).ok_or(Refusal::CutShort)
+}
+
+fn head(mut fields: Fields) -> Result<Head, Refusal> {
+    Ok(Head {
+        name: name(fields.bytes())?,
+        monitoring: match fields.byte() {
+            1 => Rto::Nyiso,
+            2 => Rto::Pjm,
+            _ => return Err(Refusal::UnlistedCode),
+        },
+        seconds: Seconds(within(SECONDS, fields.unsigned_2())?),
+        monitoring_price: Price(within(PRICES, fields.unsigned_4())?),
+        non_monitoring_price: Price(within(PRICES, fields.unsigned_4())?),
+    })
+}
+
+fn room(count: usize, most: usize) -> Result<(), Refusal> {
+    match count < most {
+        true => Ok(()),
+        false => Err(Refusal::Surplus),
+    }
+}
+
+fn name(field: NameField) -> Result<Name, Refusal> {
+    Name::of(field).ok_or(Refusal::IllFormedName)
+}
+
+fn class(code: u8) -> Result<Class, Refusal> {
+    match code {
+        1 => Ok(Class::Common),
+        2 => Ok(Class::NonCommon),
+        _ => Err(Refusal::UnlistedCode),
+    }
+}
+
+fn within(range: RangeInclusive<i64>, value: i64) -> Result<i64, Refusal> {
+    match range.contains(&value) {
+        true => Ok(value),
+        false => Err(Refusal::OutOfRange),
+    }
+}
+
+fn power(value: i64, range: RangeInclusive<i64>) -> Result<Power, Refusal> {
+    within(range, value).map(Power)
+}

@@ -1,0 +1,50 @@
+//! The refusals of document 01's table, by its numbers.
+
+use std::fmt;
+
+#[derive(Clone, Copy, Debug, PartialEq, Eq, PartialOrd, Ord)]
+#[repr(u8)]
+pub enum Refusal {
+    /// The sheet is empty, or its first byte is not 1.
+    NoHead = 1,
+    UnknownKind = 2,
+    CutShort = 3,
+    /// A kind below the one before, or a second head.
+    OutOfOrder = 4,
+    /// One more of kinds 2 to 5 than allowed.
+    Surplus = 5,
+    IllFormedName = 6,
+    RepeatedName = 7,
+    UnlistedCode = 8,
+    OutOfRange = 9,
+    FactorNotDue = 10,
+    FactorOutOfRange = 11,
+    /// No zone, or no unit.
+    NothingToSettle = 12,
+    FactorsStillDue = 13,
+    FaultyList = 14,
+    NoEntitlement = 15,
+    /// Loads with losses, or outputs, sum above 2,000,000.
+    TooMuchPower = 16,
+    ZoneLoadBelowZero = 17,
+    NoFinalLoad = 18,
+    ZoneGenerationBelowZero = 19,
+    NoNetGeneration = 20,
+    FinalGenerationBelowZero = 21,
+    FlowOutOfRange = 22,
+    BufferTooShort = 23,
+}
+
+impl Refusal {
+    pub const LAST: Refusal = Refusal::BufferTooShort;
+
+    pub fn number(self) -> u8 {
+        self as u8
+    }
+}
+
+impl fmt::Display for Refusal {
+    fn fmt(&self, f: &mut fmt::Formatter) -> fmt::Result {
+        write!(f, "refused {}", self.number())
+    }
+}
