@@ -13,7 +13,7 @@ ROOT = Path(__file__).resolve().parent.parent
 ENTRY_POINTS = [
     ("settlement", "settle"),
     ("report", "report"),
-    #("report", "write_output"),
+    ("report", "write_output"),
     ("sheet", "read"),
     ("entitlements", "find"),
     ("listing", "print"),
