@@ -3,7 +3,7 @@
 
 A contract names definitions; a definition's file imports others. Every file so reached must stand in a
 crate's specs/ (specs/inner/ is for what only inner contracts cite), README's reading list must name each,
-and name no other. Prints the files with their lines.
+and name no other, and say how many lines they have. Prints the files with their lines.
 """
 import re
 import sys
@@ -74,11 +74,11 @@ def listed():
 
 
 def lines(path):
-    """Lines of a file that say something: no blank ones and no imports."""
+    """Lines of definitions: no blank ones, no comments, no imports."""
     return sum(
         1
         for line in (ROOT / path).read_text(encoding="utf-8").splitlines()
-        if line.strip() and not line.startswith("use ")
+        if line.strip() and not line.startswith("use ") and not line.strip().startswith("--")
     )
 
 
@@ -89,7 +89,10 @@ def main():
     wrong += [f"{p}: in README's reading list, and no entry point's contract rests on it" for p in named - believed]
     for path in sorted(believed):
         print(f"{lines(path):5} {path}")
-    print(f"{sum(map(lines, believed)):5} lines to believe, imports and blank lines left out, in {len(believed)} files")
+    size = f"{sum(map(lines, believed))} lines of definitions in {len(believed)} files"
+    print(f"to believe: {size}")
+    if size not in " ".join((ROOT / "README.md").read_text(encoding="utf-8").split()):
+        wrong.append(f"README does not say '{size}'")
     if wrong:
         sys.exit("\n".join(sorted(wrong)))
 
