@@ -1,6 +1,6 @@
 -- What rows that are not met leave.
 use Prim.Native.Nat.{ℕ, suc}
-use mathlib.Core.Path.{_≡_, refl, sym}
+use mathlib.Core.Path.{_≡_, refl}
 use mathlib.Core.Bool.{Bool, true, false, _||_, true≢false}
 use native.Mathlib.Nat.{suc-ne-zero}
 use Rattle.rows.specs.Rows.{row}
