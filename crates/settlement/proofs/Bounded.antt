@@ -10,7 +10,7 @@ use lib.ListN.{length}
 use lib.Signed.{_≤ℤ_}
 use Rattle.records.specs.Codes.{nyiso, common}
 use Rattle.records.specs.Content.{Content, head}
-use Rattle.records.specs.Valid.{Valid}
+use Rattle.record_rows.specs.inner.Valid.{Valid}
 use Rattle.entitlements.specs.declared.Entitlement.the-variants as found
 use Rattle.entitlements.specs.Entitlements.{row14, entriesOf, lookUp, entitlement}
 use Rattle.entitlements.proofs.Answers.{value-within}
