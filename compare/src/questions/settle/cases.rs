@@ -65,6 +65,7 @@ fn expected(text: &str) -> Option<Expected> {
 #[cfg(test)]
 mod tests {
     use super::*;
+    use crate::mismatch::Shown;
     use crate::questions::settle::inputs;
     use crate::sides::Second;
 
