@@ -7,7 +7,7 @@
  *
  * Each function answers on every input; nothing is asked of the bytes. It reads its inputs, and writes its output
  * buffer, during the call only, allocates nothing, keeps nothing and calls nothing but memcpy and memset, so that
- * threads may call it at once. An input may be null where its length is 0. The output buffer must not overlap an input.
+ * threads may call it at once. No pointer is null, also where its length is 0. The output buffer overlaps no input.
  *
  * sheet is an interval sheet and list an entitlement list, byte by byte as docs/FORMAT.md has them.
  * A refusal is the number of a row of document 01, 'Where each refusal is checked'; docs/REFUSALS.md says for each what

@@ -109,8 +109,8 @@ def accepted_words(statement):
         value = getattr(statement, figure.name)
         label = LABELS.get(figure.name, figure.name)
         if figure.name not in REMAINDERS:
-            exact = f"{value} {figure.unit}"
-            lines.append(f"{label:<12} {everyday(value, figure):>20}   {exact:<34} {meaning(figure, statement)}")
+            exact, said = f"{value} {figure.unit}", meaning(figure, statement)
+            lines.append(f"{label:<12} {everyday(value, figure):>20}   {exact:<34} {said}")
     return [line.rstrip() for line in lines]
 
 

@@ -5,12 +5,12 @@ import time
 from functools import lru_cache
 from typing import NamedTuple
 
-from .inputs import LISTS, Input, intervals, load
+from .inputs import LISTS, Input, intervals, load_one
 from .library import Library, Statement
 from .outputs import FORMATS, Listing
 from .trouble import Trouble
 
-load_list = lru_cache(maxsize=1)(load)
+load_list = lru_cache(maxsize=1)(load_one)
 
 
 class Result(NamedTuple):
@@ -64,9 +64,9 @@ def settle(paths, options, output, warn):
 
 
 def settle_one(interval, library, warn):
-    if interval.entitlements is None:
+    if not interval.lists:
         warn(f"{interval.name}: no {' or '.join(LISTS)} in it; the list counts as empty")
-    sheet, entitlements = load(interval.sheet), load_list(interval.entitlements)
+    sheet, entitlements = load_one(interval.sheets), load_list(interval.lists)
     statement, listing = library.settle(sheet.data, entitlements.data)
     place = library.place(sheet.data) if statement.refusal else None
     return Result(interval.name, sheet, entitlements, statement, listing, place)

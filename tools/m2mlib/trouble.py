@@ -28,7 +28,7 @@ class Fault(Trouble):
 
 
 def shown(text, most=200):
-    """Text whose characters are bytes, for a message: UTF-8 where it is that, no control bytes, not too long."""
+    """Text whose characters are bytes, for a message: as UTF-8, without control bytes, not too long."""
     plain = text.encode("latin-1", "replace").decode("utf-8", "backslashreplace")
     plain = "".join(c if c.isprintable() else c.encode("unicode_escape").decode() for c in plain)
     return plain if len(plain) <= most else plain[:most] + " .."

@@ -90,6 +90,7 @@ def run_manual(call):
     return 0
 
 
+SEE = "'m2m --help' tells all"
 ANY = 1 << 62
 VERBS = {
     "settle": Verb(run_settle, 1, ANY, ("words", "json", "csv", "list=")),
@@ -104,21 +105,20 @@ VERBS = {
 def call_verb(arguments, output):
     """Runs what the arguments ask for; the status."""
     word, *rest = arguments or [""]
-    if word in ("-h", "--help"):
-        word = "help"
+    word = "help" if word in ("-h", "--help") else word
     if word not in VERBS:
-        known = ", ".join(VERBS)
-        raise Trouble(f"'{word}' is no verb; there are {known}. 'm2m --help' tells all" if word else f"a verb is wanted: {known}. 'm2m --help' tells all")
+        said = f"'{word}' is no verb" if word else "a verb is wanted"
+        raise Trouble(f"{said}: there are {', '.join(VERBS)}; {SEE}")
     verb = VERBS[word]
     try:
         options, rest = getopt.gnu_getopt(rest, "h", ["help", *verb.options])
     except getopt.GetoptError as error:
-        raise Trouble(f"{word}: {error.msg}; 'm2m --help' tells all") from None
+        raise Trouble(f"{word}: {error.msg}; {SEE}") from None
     if any(option in ("-h", "--help") for option, _ in options):
         verb, rest = VERBS["help"], []
     if not verb.least <= len(rest) <= verb.most:
         count = "more" if len(rest) < verb.least else "fewer"
-        raise Trouble(f"{word}: {count} arguments are wanted; 'm2m --help' tells all")
+        raise Trouble(f"{word}: {count} arguments are wanted; {SEE}")
     return verb.run(Call(rest, dict(options), output))
 
 

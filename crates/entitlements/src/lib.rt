@@ -74,7 +74,7 @@ fn record_fault(list: &[u8], at: usize, n: usize, mask: usize, table: &mut [u16]
         base: 0,
         mask: mask,
     };
-    if name_index::seen_before(list, run, table) {
+    if name_index::seen_before(list, from, run, table) {
         return true;
     }
     (list[at] != KIND) | entry_fault(&list[from..])

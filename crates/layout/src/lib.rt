@@ -119,5 +119,5 @@ pub fn repeated(s: &[u8], l: Layout, kind: u8, at: usize, table: &mut [u16]) -> 
         base: base,
         mask: MASK,
     };
-    name_index::seen_before(s, run, table)
+    name_index::seen_before(s, at + 1, run, table)
 }

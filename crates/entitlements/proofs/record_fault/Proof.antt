@@ -7,7 +7,6 @@ use denote.Ref.{now}
 use borrow.Author.Needs.{needs}
 use lib.ListN.{length, drop, length-drop}
 use Rattle.names.specs.Names.{seenBefore}
-use Rattle.name_index.specs.inner.Index.{placeOf}
 use Rattle.name_index.proofs.Laws.{next-indexed}
 use Rattle.entitlements.proofs.Walk.{first-count, tail-part}
 use Rattle.entitlements.proofs.Records.{fault-cut, fault-full, fault-twice, fault-new}
@@ -36,7 +35,7 @@ seen-before-requires : tie.Need-seen-before-requires
 seen-before-requires c κs =
     let p = c .before .before .before .before .before in
     let r = p .pre .2 .room (p .args .n) (c .before .if2 .left) (omega arith) in
-    (omega arith, omega arith, omega arith, p .pre .3)
+    (omega arith, omega arith, omega arith, omega arith, p .pre .3)
 
 same-length : tie.Need-same-length
 same-length c = search needs
@@ -46,10 +45,7 @@ seen-is : (c : tie.After-seen-before) →
     let a = c .before .before .before .before .before .before .args in
     c .seen-before .result ≡ seenBefore (firstNames (now (a .list)) (a .n)) (entryOf (drop (a .at + 1) (now (a .list))) .name)
 unfolding entryOf
-seen-is c =
-    let p = c .before .before .before .before .before .before in
-    let e : placeOf (runOf (p .args .mask) (p .args .n)) (p .args .n) ≡ p .args .at + 1 = omega arith in
-    rw e at (c .seen-before .ensures .0)
+seen-is c = c .seen-before .ensures .0
 
 returns-3 : tie.Need-returns-3
 returns-3 c = record { told = sym (fault-twice _ _ _ (sym (seen-is (c .before .before .before)) ∙ c .if3 .taken)); added = λ e. absurd (true≢false e) }

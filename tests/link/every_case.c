@@ -1,0 +1,54 @@
+/* every_case: settles the cases that standard input holds, a sheet and a list in hexadecimal digits to a line ('-' for no
+ * bytes), each in a block of memory of just its length, so that valgrind sees any byte read or written beside them. */
+#include "m2m.h"
+
+#include <stdio.h>
+#include <stdlib.h>
+#include <string.h>
+
+typedef struct {
+    uint8_t *bytes;
+    size_t length;
+} block;
+
+static block read_block(char *digits) {
+    block b = {NULL, strcmp(digits, "-") == 0 ? 0 : strlen(digits) / 2};
+    b.bytes = malloc(b.length);
+    for (size_t i = 0; i < b.length; i++) {
+        char pair[3] = {digits[2 * i], digits[2 * i + 1], 0};
+        b.bytes[i] = (uint8_t)strtoul(pair, NULL, 16);
+    }
+    return b;
+}
+
+static void report(block sheet, block list, size_t room) {
+    uint8_t *out = malloc(room);
+    m2m_printed p = m2m_report(sheet.bytes, sheet.length, list.bytes, list.length, out, room);
+    if (p.statement.refusal == 0)
+        fwrite(out, 1, p.length, stdout);
+    else
+        printf("refused %d\n", p.statement.refusal);
+    if (p.length > 0 && p.length == room)
+        report(sheet, list, room - 1);
+    free(out);
+}
+
+int main(void) {
+    char *line = NULL;
+    size_t room = 0;
+    while (getline(&line, &room, stdin) > 0) {
+        block sheet = read_block(strtok(line, " \n")), list = read_block(strtok(NULL, " \n"));
+        m2m_statement s = m2m_settle(sheet.bytes, sheet.length, list.bytes, list.length);
+        m2m_sheet r = m2m_read(sheet.bytes, sheet.length);
+        m2m_entitled e = m2m_entitlement(list.bytes, list.length, s.name, 16);
+        m2m_printed p;
+        uint8_t out[M2M_LISTING_ROOM];
+        p = m2m_report(sheet.bytes, sheet.length, list.bytes, list.length, out, sizeof out);
+        printf("%d %d %d\n", s.refusal, r.refusal, e.refusal);
+        report(sheet, list, p.length);
+        free(sheet.bytes);
+        free(list.bytes);
+    }
+    free(line);
+    return 0;
+}

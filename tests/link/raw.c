@@ -1,0 +1,64 @@
+/* raw SHEET LIST: what the archive leaves in memory, with nothing assumed of its structs. Prints a line for each function:
+ * its name, and the bytes at the answer's address after a call over memory filled with 0x00 and after one over 0xff. A
+ * struct of more than 16 bytes is answered at an address that the caller hands over as a first argument; the entitlement's
+ * has 16 and comes in two registers (System V ABI, x86-64). */
+#include <stdint.h>
+#include <stdio.h>
+#include <string.h>
+
+enum { ROOM = 1024, FILE_ROOM = 70000 };
+
+typedef struct {
+    uint64_t first, second;
+} registers;
+
+extern void *m2m_settle(void *, const uint8_t *, size_t, const uint8_t *, size_t);
+extern void *m2m_report(void *, const uint8_t *, size_t, const uint8_t *, size_t, uint8_t *, size_t);
+extern void *m2m_read(void *, const uint8_t *, size_t);
+extern registers m2m_entitlement(const uint8_t *, size_t, const uint8_t *, size_t);
+
+static uint8_t sheet[FILE_ROOM], list[FILE_ROOM], out[ROOM];
+static size_t sheet_length, list_length;
+
+static size_t content(const char *name, uint8_t *to) {
+    FILE *in = fopen(name, "rb");
+    size_t n = in ? fread(to, 1, FILE_ROOM, in) : 0;
+    if (in)
+        fclose(in);
+    return n;
+}
+
+static void hex(const uint8_t *bytes, size_t n) {
+    putchar(' ');
+    for (size_t i = 0; i < n; i++)
+        printf("%02x", bytes[i]);
+}
+
+int main(int count, char **words) {
+    if (count != 3)
+        return 2;
+    sheet_length = content(words[1], sheet);
+    list_length = content(words[2], list);
+    static const char *const names[] = {"m2m_settle", "m2m_report", "m2m_read", "m2m_entitlement"};
+    for (int f = 0; f < 4; f++) {
+        printf("%s", names[f]);
+        for (int fill = 0; fill < 2; fill++) {
+            uint8_t answer[ROOM];
+            memset(answer, fill ? 0xff : 0, ROOM);
+            if (f == 0)
+                m2m_settle(answer, sheet, sheet_length, list, list_length);
+            else if (f == 1)
+                m2m_report(answer, sheet, sheet_length, list, list_length, out, ROOM);
+            else if (f == 2)
+                m2m_read(answer, sheet, sheet_length);
+            else {
+                registers r = m2m_entitlement(list, list_length, sheet + 1, 16);
+                memcpy(answer, &r, sizeof r);
+            }
+            hex(answer, ROOM);
+        }
+        putchar('\n');
+    }
+    printf("listing %s", (const char *)out);
+    return 0;
+}

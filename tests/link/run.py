@@ -1,0 +1,361 @@
+#!/usr/bin/env python3
+"""run.py: the C interface of the archive target/staticlib/libexports.a.
+
+A C program links it through include/m2m.h and checks sheet S. Then the declarations of the header, of the comparison in
+Rust and of the front end in Python are held against what the archive leaves in memory: where each field stands, how long
+it is, and how long the whole is. Planted wrong declarations must be found.
+"""
+import ctypes
+import glob
+import os
+import random
+import re
+import struct
+import subprocess
+import sys
+import tempfile
+
+HERE = os.path.dirname(os.path.abspath(__file__))
+ROOT = os.path.dirname(os.path.dirname(HERE))
+ARCHIVE = os.path.join(ROOT, "target/staticlib/libexports.a")
+HEADER = os.path.join(ROOT, "include/m2m.h")
+FUNCTIONS = ("m2m_settle", "m2m_report", "m2m_read", "m2m_entitlement")
+# The fields of each function's answer, as the crates name them.
+STATEMENT = (
+    "refusal name gtl first_remainder second_remainder parallel shadow common noncommon market entitlement price amount"
+    " nyiso pjm"
+).split()
+FIELDS = {
+    "m2m_settle": STATEMENT,
+    "m2m_report": STATEMENT + ["length"],
+    "m2m_read": "refusal place zones units points pars factors".split(),
+    "m2m_entitlement": ["refusal", "value"],
+}
+
+
+class Wrong(Exception):
+    pass
+
+
+def said(*command, **how):
+    return subprocess.run(command, check=True, capture_output=True, text=True, **how).stdout
+
+
+def compiled(folder, name, *words):
+    program = os.path.join(folder, name)
+    subprocess.run(["cc", "-std=c11", "-O1", "-Wall", "-Wextra", "-Werror", "-o", program, *words], check=True)
+    return program
+
+
+# Sheets whose figures are all different.
+
+
+def name(word):
+    return word.encode().ljust(16, b"\0")
+
+
+def interval(chance, monitoring):
+    """A sheet of three zones, five units, four points and two PARs, an entitlement list, and the tenths of a MW in it."""
+    some = chance.randrange
+    sheet = struct.pack(">B16sBHII", 1, name("F%d" % some(10**9)), monitoring, 300, some(1, 9999), some(10000, 99999))
+    for k in range(3):
+        sheet += struct.pack(">B16sII", 2, name("Z%d" % k), some(1000, 90000), some(100))
+    for k in range(5):
+        sheet += struct.pack(">B16sBI", 3, name("U%d" % k), 1 + k % 3, some(10000, 90000))
+    for k in range(4):
+        place = k % 2 and 1 + k // 2
+        sheet += struct.pack(">B16sBBII", 4, name("P%d" % k), 1 + k // 2, place, some(100), some(100))
+    for k in range(2):
+        sheet += struct.pack(">B16sBii", 5, name("T%d" % k), 1 + k, some(-9999, 9999), some(-9999, 9999))
+    for target in range(3):
+        for subject, count in enumerate((5, 3, 4, 2 if target == 0 else 0), 1):
+            for k in range(count):
+                sheet += struct.pack(">BBBHh", 6, target, subject, 1 + k, some(-9999, 9999))
+    value = some(-1000, 1000)
+    return sheet, struct.pack(">B16si", 0x10, sheet[1:17], value), value
+
+
+def expected(sheet, listing, value):
+    """What each function says of an accepted interval, by the listing's own words; nothing of a refused one."""
+    if not listing:
+        return None
+    lines = dict(line.split(" ", 1) for line in listing.splitlines())
+    gtl, first, second = lines.pop("gtl").split()
+    values = {"refusal": 0, "name": bytes.fromhex(lines.pop("flowgate")).ljust(16, b"\0")}
+    values.update(gtl=int(gtl), first_remainder=int(first), second_remainder=int(second))
+    values.update((label.lower(), int(figure)) for label, figure in lines.items())
+    counts = dict(refusal=0, place=0, zones=3, units=5, points=4, pars=2, factors=14 + 24)
+    return {
+        "m2m_settle": values,
+        "m2m_report": dict(values, length=len(listing)),
+        "m2m_read": counts,
+        "m2m_entitlement": dict(refusal=0, value=value),
+    }
+
+
+def encoded(value):
+    if isinstance(value, bytes):
+        return value
+    return struct.pack("<q", value)
+
+
+def seen(raw, folder):
+    """Of each function: where the archive puts each field, and which bytes it always writes."""
+    chance = random.Random(1)
+    places = {function: {} for function in FUNCTIONS}
+    written = {function: None for function in FUNCTIONS}
+
+    def met(sheet, entitlements, values_of):
+        paths = []
+        for file, content in (("sheet", sheet), ("list", entitlements)):
+            paths.append(os.path.join(folder, file))
+            with open(paths[-1], "wb") as out:
+                out.write(content)
+        text = said(raw, *paths)
+        lines, _, listing = text.partition("listing ")
+        values = values_of(listing)
+        if values is None:
+            return False
+        for line in lines.splitlines():
+            function, low, high = line.split()
+            low, high = bytes.fromhex(low), bytes.fromhex(high)
+            same = {at for at in range(len(low)) if low[at] == high[at]}
+            written[function] = same if written[function] is None else written[function] & same
+            for field, value in values[function].items():
+                if field == "refusal":
+                    found = {at for at in same if low[at] == value}
+                else:
+                    wanted = encoded(value)
+                    found = {at for at in same if low[at : at + len(wanted)] == wanted}
+                places[function][field] = places[function].get(field, found) & found
+        return True
+
+    accepted = 0
+    while accepted < 12:
+        sheet, entitlements, value = interval(chance, 1 + accepted % 2)
+        accepted += met(sheet, entitlements, lambda listing: expected(sheet, listing, value))
+
+    # Refusals tell the number and the place apart from zeros.
+    def refused(number, place):
+        zeros = {function: dict.fromkeys(fields, 0) for function, fields in FIELDS.items()}
+        for function in FUNCTIONS[:2]:
+            zeros[function].update(refusal=number, name=bytes(16))
+        zeros["m2m_read"].update(refusal=number, place=place)
+        zeros["m2m_entitlement"].update(refusal=14)
+        return zeros
+
+    sheet = bytearray(sheet)
+    sheet[28 + 25] = 9
+    met(bytes(sheet), b"\x11", lambda listing: refused(2, 28 + 25))
+    met(bytes(sheet[: 28 + 10]), b"\x11", lambda listing: refused(3, 28))
+    layout = {}
+    for function in FUNCTIONS:
+        layout[function] = []
+        for field in FIELDS[function]:
+            found = places[function][field]
+            if len(found) != 1:
+                raise Wrong("%s: %s may stand at %s" % (function, field, sorted(found)))
+            size = 1 if field == "refusal" else 16 if field == "name" else 8
+            layout[function].append((field, found.pop(), size))
+    return layout, written
+
+
+# What is declared: a function's answer as its fields with offset and size, and the size of the whole.
+
+
+def by_lines(text):
+    declared = {}
+    for line in text.splitlines():
+        function, field, offset, size = line.split()
+        fields, _ = declared.setdefault(function, ([], 0))
+        if field == "whole":
+            declared[function] = (fields, int(size))
+        else:
+            fields.append((field, int(offset), int(size)))
+    return declared
+
+
+def structs_of_c(text):
+    """The fields of each struct, by the name of its type."""
+    plain = re.sub(r"/\*.*?\*/", "", text, flags=re.S)
+    structs = {}
+    for body, kind in re.findall(r"typedef struct \w+ \{(.*?)\} (\w+);", plain, re.S):
+        structs[kind] = [tuple(re.sub(r"\[.*", "", line).split()) for line in body.split(";") if line.strip()]
+    answers = {function: kind for kind, function in re.findall(r"(\w+) (m2m_\w+)\(", plain)}
+    return structs, answers
+
+
+def leaves(structs, kind, path=""):
+    for type_, field in structs[kind]:
+        if type_ in structs:
+            yield from leaves(structs, type_, path + field + ".")
+        else:
+            yield field, path + field
+
+
+def header(text, folder):
+    """The layout of the header's structs, as the C compiler has it."""
+    structs, answers = structs_of_c(text)
+    with open(os.path.join(folder, "m2m.h"), "w") as out:
+        out.write(text)
+    lines = []
+    for function in FUNCTIONS:
+        kind = answers[function]
+        for field, path in leaves(structs, kind):
+            lines.append('P("%s", "%s", offsetof(%s, %s), sizeof(((%s *)0)->%s));' % (function, field, kind, path, kind, path))
+        lines.append('P("%s", "whole", (size_t)0, sizeof(%s));' % (function, kind))
+    source = os.path.join(folder, "header.c")
+    with open(source, "w") as out:
+        out.write('#include "m2m.h"\n#include <stdio.h>\n#define P(f, n, o, s) printf("%s %s %zu %zu\\n", f, n, o, s)\n')
+        out.write("int main(void) {\n%s\nreturn 0;\n}\n" % "\n".join(lines))
+    return by_lines(said(compiled(folder, "header", "-I" + folder, source)))
+
+
+def rust(text, folder):
+    """The layout of the Rust declarations, as the Rust compiler has it."""
+    plain = re.sub(r"//[^\n]*|\bpub ", "", text)
+    structs, sources = {}, []
+    for kind, body in re.findall(r"#\[repr\(C\)\]\s*struct (\w+) \{(.*?)\n\}", plain, re.S):
+        structs[kind] = [
+            (type_.strip(), field) for field, type_ in re.findall(r"(\w+): ((?:\[[^\]]*\]|[^,\[])+),", body)
+        ]
+        sources.append("#[repr(C)] struct %s {%s}" % (kind, body))
+    answers = dict(re.findall(r"fn (m2m_\w+)\([^)]*\) -> (\w+);", plain))
+    used = {type_ for fields in structs.values() for type_, _ in fields}
+    for alias, type_ in dict(re.findall(r"\btype (\w+) = (\[[^\]]*\]|[^;\[]+);", plain)).items():
+        if alias in used:
+            sources.append("type %s = %s;" % (alias, type_))
+    lines = []
+    for function in FUNCTIONS:
+        kind = answers[function]
+        for field, path in leaves(structs, kind):
+            lines.append("p(%r, %r, offset_of!(%s, %s), size(|s: &%s| &raw const s.%s));" % (function, field, kind, path, kind, path))
+        lines.append("p(%r, 'whole', 0, size_of::<%s>());" % (function, kind))
+    source = os.path.join(folder, "rust.rs")
+    with open(source, "w") as out:
+        out.write("#![allow(dead_code)]\nuse std::mem::{offset_of, size_of};\n%s\n" % "\n".join(sources))
+        out.write("fn size<S, T>(_: impl Fn(&S) -> *const T) -> usize { size_of::<T>() }\n")
+        out.write('fn p(f: &str, n: &str, o: usize, s: usize) { println!("{f} {n} {o} {s}"); }\n')
+        out.write("fn main() {\n%s\n}\n" % "\n".join(lines).replace("'", '"'))
+    program = os.path.join(folder, "rust")
+    subprocess.run(["rustc", "--edition", "2021", "-o", program, source], check=True)
+    return by_lines(said(program))
+
+
+def rust_text():
+    paths = glob.glob(os.path.join(ROOT, "compare/src/**/*.rs"), recursive=True)
+    paths += glob.glob(os.path.join(ROOT, "second/src/*.rs"))
+    texts = []
+    for path in sorted(paths):
+        with open(path) as file:
+            text = file.read()
+        if "repr(C)" in text or 'extern "C"' in text or "pub type" in text:
+            texts.append(text)
+    return "\n".join(texts)
+
+
+def python():
+    """The layout of the front end's declarations."""
+    sys.path.insert(0, os.path.join(ROOT, "tools"))
+    from m2mlib import library
+
+    def fields(kind, base=0):
+        for field, type_ in kind._fields_:
+            at = getattr(kind, field)
+            if issubclass(type_, ctypes.Structure):
+                yield from fields(type_, base + at.offset)
+            else:
+                yield field, base + at.offset, at.size
+
+    answers = {"m2m_settle": library.Statement, "m2m_report": library.Printed, "m2m_read": library.Sheet}
+    return {function: (list(fields(kind)), ctypes.sizeof(kind)) for function, kind in answers.items()}
+
+
+def hold(declared, layout, written):
+    """The declarations against the archive: each field where it is, and as long as it is; the whole as long as it is."""
+    for function, (fields, whole) in declared.items():
+        if fields != layout[function]:
+            wrong = [pair for pair in zip(fields, layout[function]) if pair[0] != pair[1]]
+            raise Wrong("%s: declared and found differ, %s" % (function, wrong[:1] or "in the number of fields"))
+        if function == "m2m_entitlement":
+            end = 16
+        else:
+            covered = {at for _, offset, size in fields for at in range(offset, offset + size)}
+            if not covered <= written[function]:
+                raise Wrong("%s: bytes %s are never written" % (function, sorted(covered - written[function])[:8]))
+            end = max(written[function]) + 1
+        if whole != (end + 7) // 8 * 8:
+            raise Wrong("%s: %d bytes are declared, the archive's answer has %d" % (function, whole, end))
+
+
+def swapped(text, one, other):
+    """The text with two words that occur in it in each other's place."""
+    parts = re.split(r"\b(%s|%s)\b" % (one, other), text)
+    return "".join({one: other, other: one}.get(part, part) for part in parts)
+
+
+def planted(text, edits, declared, layout, written, folder):
+    for edit in edits:
+        wrong = swapped(text, *edit) if edit[0].isidentifier() else text.replace(*edit, 1)
+        if wrong == text:
+            raise Wrong("nothing to plant a fault in: %r" % (edit,))
+        try:
+            hold(declared(wrong, folder), layout, written)
+        except Wrong:
+            continue
+        raise Wrong("a wrong declaration passed: %r" % (edit,))
+    return len(edits)
+
+
+# Two names in each other's place, or a text for a text.
+HEADER_EDITS = (
+    ("nyiso", "pjm"),
+    ("first_remainder", "second_remainder"),
+    ("common", "noncommon"),
+    ("units", "points"),
+    ("    int64_t shadow; ", "    "),
+    ("int64_t gtl; ", "int32_t gtl; "),
+    ("uint8_t refusal;\n    uint8_t name[16];", "uint8_t name[16];\n    uint8_t refusal;"),
+    ("uint8_t name[16];", "uint8_t name[17];"),
+    ("    m2m_statement statement;\n    size_t length;", "    size_t length;\n    m2m_statement statement;"),
+    ("    size_t factors;\n", "    size_t factors;\n    size_t wheels;\n"),
+    ("uint8_t refusal;\n    size_t place;", "uint32_t refusal;\n    size_t place;"),
+    ("uint8_t refusal;\n    int64_t value;", "int64_t value;\n    uint8_t refusal;"),
+)
+RUST_EDITS = (
+    ("nyiso", "pjm"),
+    ("units", "points"),
+    ("market: i64,", "market: i32,"),
+    ("shadow: i64,", ""),
+    ("place: usize,", "place: u32,"),
+    ("value: i64,", "value: i64, more: i64,"),
+)
+
+
+def main():
+    with open(HEADER) as file:
+        text = file.read()
+    with tempfile.TemporaryDirectory() as folder:
+        for language in ("c", "c++"):
+            subprocess.run(["cc", "-x", language, "-fsyntax-only", "-Wall", "-Wextra", "-Werror", HEADER], check=True)
+        sheet_s = compiled(folder, "sheet_s", "-I" + os.path.dirname(HEADER), os.path.join(HERE, "sheet_s.c"), ARCHIVE)
+        data = os.path.join(ROOT, "crates/settle")
+        said(sheet_s, *(os.path.join(data, file) for file in ("data/sheet.bin", "data/entitle.bin", "stdout")))
+        layout, written = seen(compiled(folder, "raw", os.path.join(HERE, "raw.c"), ARCHIVE), folder)
+        hold(header(text, folder), layout, written)
+        hold(rust(rust_text(), folder), layout, written)
+        hold(python(), layout, written)
+        faults = planted(text, HEADER_EDITS, header, layout, written, folder)
+        faults += planted(rust_text(), RUST_EDITS, rust, layout, written, folder)
+        with open(os.path.join(ROOT, "crates/listing/src/lib.rt")) as file:
+            room = re.search(r"const ROOM: usize = (\d+);", file.read()).group(1)
+        if "#define M2M_LISTING_ROOM %s\n" % room not in text:
+            raise Wrong("M2M_LISTING_ROOM is not listing::ROOM, %s" % room)
+    fields = sum(map(len, layout.values()))
+    print("sheet S from C; %d fields stand where C, Rust and Python declare them; %d planted faults found" % (fields, faults))
+
+
+try:
+    main()
+except Wrong as wrong:
+    sys.exit("the C interface: %s" % wrong)
