@@ -209,11 +209,12 @@ impl Question for Settle {
 
     fn directed(&mut self, sides: &Sides, seed: u64) -> Outcome {
         self.case_files(sides)?;
+        self.rows_on_one_record(sides, seed)?;
+        self.rows_anywhere(sides, seed)?;
         for (input, expected) in self.directed_inputs(seed).iter() {
             self.expect(sides, input, expected)?;
         }
-        self.rows_on_one_record(sides, seed)?;
-        self.rows_anywhere(sides, seed)
+        Ok(())
     }
 
     fn seeded(&mut self, sides: &Sides, seed: u64, k: u64) -> Outcome {
