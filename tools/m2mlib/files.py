@@ -6,7 +6,7 @@ import sys
 from .trouble import Trouble
 
 ROOT = os.path.dirname(os.path.dirname(os.path.dirname(os.path.abspath(__file__))))
-LONGEST = 1 << 24
+LONGEST, CHUNK = 1 << 24, 1 << 17
 
 
 def read_file(path):
@@ -28,7 +28,9 @@ def read_input():
 
 
 def whole(file, path):
-    data = file.read(LONGEST + 1)
-    if len(data) > LONGEST:
-        raise Trouble(f"{path}: more than {LONGEST} bytes can't be a sheet or a list")
+    data = file.read(CHUNK)
+    while more := file.read(CHUNK):
+        data += more
+        if len(data) > LONGEST:
+            raise Trouble(f"{path}: more than {LONGEST} bytes can't be a sheet or a list")
     return data

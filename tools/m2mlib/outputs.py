@@ -6,7 +6,7 @@ import json
 import textwrap
 
 from .library import FIGURES
-from .refusals import refusals
+from .refusals import words_of
 from .words import everyday, name_text, record_at, refusal_words
 
 LABELS = {"nyiso": "NYISO", "pjm": "PJM"}
@@ -94,7 +94,7 @@ def columns(result):
     name = bytes(statement.name)
     record = record_at(result.sheet.data, result.place) if result.place is not None else None
     row = dict(zip(IDENTITY, (
-        result.name, refused, refusals()[refused].title if refused else None, result.place, record,
+        result.name, refused, words_of(refused).title if refused else None, result.place, record,
         None if refused else name_text(name), None if refused else name.rstrip(b"\0").hex(),
     )))
     row.update((heading(f), None if refused else getattr(statement, f.name)) for f in FIGURES)

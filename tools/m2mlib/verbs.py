@@ -3,6 +3,7 @@
 import getopt
 import os
 import sys
+from contextlib import suppress
 from typing import Callable, NamedTuple
 
 from .cases import case_files, case_lines
@@ -36,8 +37,10 @@ class Verb(NamedTuple):
 
 
 def warn(line):
-    if sys.stderr is not None:
-        print(f"m2m: {line}", file=sys.stderr, flush=True)
+    """Tells a line on standard error, if that can be written to."""
+    with suppress(OSError, AttributeError):
+        sys.stderr.write(f"m2m: {line}\n")
+        sys.stderr.flush()
 
 
 def run_settle(call):

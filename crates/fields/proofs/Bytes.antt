@@ -6,7 +6,8 @@ use mathlib.Core.List.{List}
 use native.Mathlib.Omega.{arith}
 use lib.ListN.{getD}
 use Rattle.integers.proofs.Cases.{below-or}
-use Rattle.fields.specs.Fields.{byteAt, be16, be32, be64}
+use Rattle.fields.specs.Fields.{byteAt, be16, be32}
+use Rattle.fields.specs.inner.Word.{be64}
 
 -- a list of bytes
 abbrev pub Bytes : List ℕ → Type 0

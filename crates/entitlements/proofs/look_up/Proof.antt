@@ -10,7 +10,7 @@ use borrow.Author.Needs.{needs}
 use lib.ListN.{length, drop, length-drop}
 use Rattle.names.proofs.SameNames.{words-are}
 use Rattle.names.specs.Names.{nameAt, sameList}
-use Rattle.entitlements.proofs.Walk.{Whole, passed-whole, whole-next, whole-name, look-other-length, look-here, look-on, look-end, tail-part}
+use Rattle.entitlements.proofs.ByRecord.{Whole, passed-whole, whole-next, whole-name, look-other-length, look-here, look-on, look-end, tail-part}
 use Rattle.entitlements.specs.declared.Entitlement.the-variants.{Found}
 use Rattle.entitlements.specs.Entitlements.{entriesOf, lookUp}
 use Rattle.entitlements.proofs.look_up.Statement.{statement}

@@ -7,9 +7,9 @@ use denote.Ref.{now}
 use borrow.Author.Needs.{needs}
 use lib.ListN.{length, drop, length-drop}
 use Rattle.names.specs.Names.{seenBefore}
-use Rattle.name_index.proofs.Laws.{next-indexed}
-use Rattle.entitlements.proofs.Walk.{first-count, tail-part}
-use Rattle.entitlements.proofs.Records.{fault-cut, fault-full, fault-twice, fault-new}
+use Rattle.name_index.proofs.Table.{next-indexed}
+use Rattle.entitlements.proofs.ByRecord.{first-count, tail-part}
+use Rattle.entitlements.proofs.RecordFault.{fault-cut, fault-full, fault-twice, fault-new}
 use Rattle.entitlements.specs.inner.Steps.{runOf, firstNames}
 use Rattle.entitlements.specs.Entitlements.{mostRecords, entryOf}
 use Rattle.entitlements.proofs.record_fault.Statement.{statement}

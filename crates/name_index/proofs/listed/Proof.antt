@@ -7,7 +7,7 @@ use borrow.Author.Needs.{needs}
 use Rattle.names.proofs.SameNames.{words-are}
 use Rattle.names.specs.Names.{nameAt, sameList}
 use Rattle.name_index.specs.inner.Index.{placeOf}
-use Rattle.name_index.proofs.Laws.{Reached, Looked, hash-small, search-first, search-end, search-on}
+use Rattle.name_index.proofs.Table.{Reached, Looked, hash-small, search-first, search-end, search-on}
 use Rattle.name_index.proofs.listed.Statement.{statement}
 use Rattle.name_index.proofs.listed.Tie as tie
 
