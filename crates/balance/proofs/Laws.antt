@@ -21,7 +21,7 @@ use Rattle.integers.proofs.Sums.{sum-same, sum-pick, sum-abs}
 use Rattle.records.specs.declared.Place.{Place}
 use Rattle.records.specs.declared.Place.the-variants.{Proxy, Line}
 use Rattle.records.specs.Content.{Content, zone, unit, point}
-use Rattle.records.specs.Valid.{Valid, LineFits}
+use Rattle.record_rows.specs.inner.Valid.{Valid, LineFits}
 use Rattle.figures.specs.Balance.{samePlace, importAt, imports, exportAt, exports, totalLoad, output, outputIn, zoneOutput}
 use Rattle.balance.specs.declared.Ledger.the-variants.{Loads, Outputs, Imports, Exports}
 use Rattle.balance.specs.inner.Ledger.{numberOf, bookingOf, bookings, bookedAt, sumAt, Small, amountAt, netAt}

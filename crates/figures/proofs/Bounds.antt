@@ -18,7 +18,7 @@ use Rattle.integers.proofs.Tactic.{zi, zo}
 use Rattle.records.specs.declared.Place.the-variants.{Line}
 use Rattle.records.specs.Codes.{common, noncommon, unitSubject, zoneSubject}
 use Rattle.records.specs.Content.{Content, unit, par}
-use Rattle.records.specs.Valid.{Valid}
+use Rattle.record_rows.specs.inner.Valid.{Valid}
 use Rattle.figures.specs.Balance.{imports, totalLoad, zoneLoad, netLoad, output, outputIn, zoneOutput, exports, zoneGeneration, netGeneration, finalGeneration, grossOutput, grossLoad, balanceRow}
 use Rattle.figures.specs.Flow.{factor, parFactor, outputTerm, weightedOutput, loadTerm, weightedLoad, firstDividend, loadShare, firstRemainder, grossFlow, secondDividend, generationToLoad, secondRemainder, parallel, shadow, control, carriedTerm, carriedSum, carried, redirect, nyisoMonitors, nonCommonRedirect, marketFlow}
 use Rattle.figures.specs.inner.Most.{mostPower, mostWeighted, mostShare, mostGenerationToLoad, mostSchedule, mostRedirect}

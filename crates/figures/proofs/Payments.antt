@@ -5,19 +5,19 @@ use native.Mathlib.Omega.{arith}
 use mathlib.Core.Path.{_≡_, refl, sym}
 use mathlib.Core.Bool.{Bool, true, false, cond}
 use borrow.Author.Tests.{ltb-false, eqb-true, eqb-false}
-use lib.Dec.{eqb, ltb, lit<}
+use lib.Dec.{eqb, ltb}
 use lib.IntN.{ℤ, pos, negsuc, negℤ, natAbs, _*ℤ_, negℤ-negℤ}
 use lib.Signed.{_≤ℤ_, _<ℤ_}
 use Rattle.integers.proofs.Parts.{lt-to}
 use Rattle.integers.proofs.Absolute.{abs-sub, abs-neg}
+use Rattle.rows.proofs.NotMet.{row-pass}
 use Rattle.records.specs.declared.Head.{Head}
 use Rattle.records.specs.Codes.{nyiso, pjm}
 use Rattle.records.specs.Content.{Content, head}
-use Rattle.records.specs.Valid.{Valid, HeadFits}
+use Rattle.record_rows.specs.inner.Valid.{Valid, HeadFits}
 use Rattle.figures.specs.Flow.{marketFlow, mostFlow, flowRow}
 use Rattle.figures.specs.Payment.{inWatts, difference, price, amountOf, amount, payment}
 use Rattle.figures.specs.inner.Most.{mostDifference, mostAmount}
-use Rattle.figures.proofs.Balanced.{not-met}
 use Rattle.figures.proofs.Numbers.{natural-least, times-within, quotient-share}
 
 pub price-above : (h : Head) (d : ℤ) → pos 0 <ℤ d → price h d ≡ pos (h .«monitoring_price»)
@@ -58,7 +58,7 @@ module _ {h : Head} (f : HeadFits h) where
 
 pub flow-within : (flow : ℤ) → flowRow flow ≡ 0 → natAbs flow ≤ mostFlow
 unfolding flowRow
-flow-within flow e = omega (arith, ltb-false, not-met (ltb mostFlow (natAbs flow)) 22 0 (lit< tt) e .0)
+flow-within flow e = omega (arith, ltb-false, row-pass 21 (ltb mostFlow (natAbs flow)) 0 e .0)
 
 pub in-watts-within : (entitlement : ℤ) → natAbs entitlement ≤ 100000 → natAbs (inWatts entitlement) ≤ mostFlow
 unfolding inWatts

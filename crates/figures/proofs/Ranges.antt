@@ -12,7 +12,7 @@ use Rattle.records.specs.declared.Place.{Place}
 use Rattle.records.specs.declared.Place.the-variants.{Line}
 use Rattle.records.specs.Codes.{common, noncommon, pointSubject}
 use Rattle.records.specs.Content.{Content, zone, unit, point, par}
-use Rattle.records.specs.Valid.{Valid}
+use Rattle.record_rows.specs.inner.Valid.{Valid}
 use Rattle.figures.specs.Balance.{samePlace, importAt, imports, totalLoad, zoneLoad, output}
 use Rattle.figures.specs.Flow.{factor, parFactor, netSchedule, scheduleTerm, scheduleFlow, parallel, shadow, controlTerm, control}
 use Rattle.figures.specs.inner.Most.{mostSchedule}

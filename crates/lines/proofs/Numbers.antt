@@ -8,7 +8,7 @@ use mir.Val.{toZ, ofZ, SFits}
 use Rattle.writers.specs.inner.Prepended.{Prepended}
 use Rattle.writers.proofs.Prepending.{ahead}
 use Rattle.writers.proofs.Signs.{as-is}
-use Rattle.lines.specs.Lines.{figure, line, gtlLine, flowLines, paymentLines}
+use Rattle.printout.specs.Lines.{figure, line, gtlLine, flowLines, paymentLines}
 
 module _ (label : List ℕ) {z : ℤ} {ys zs : List ℕ} {b c : ℕ} (h : SFits w64 z) where
   pub figure-as-is : Prepended (figure label (toZ w64 (ofZ w64 z))) ys b zs c → Prepended (figure label z) ys b zs c

@@ -5,7 +5,8 @@ use writers::put_name;
 ghost use Prim.Native.Nat.{_+_, _*_, _≤_};
 ghost use lib.ListN.{length};
 ghost use Rattle.writers.specs.inner.Prepended.{Prepended};
-ghost use Rattle.lines.specs.Lines.{figure, line, flowgateLine, gtlLine, flowLines, paymentLines, refusalLine};
+ghost use Rattle.printout.specs.Lines.{figure, line, flowgateLine, gtlLine, flowLines, paymentLines};
+ghost use Rattle.printout.specs.Listing.{refusalLine};
 ghost use Rattle.lines.specs.inner.Room.{labelRoom, lineRoom};
 
 // The room for a line: the longest label, a number of 64 bits and the line feed.

@@ -1,3 +1,1 @@
 pub mod Printing
-pub mod Example
-pub mod Longest

@@ -10,9 +10,10 @@ use Rattle.statement.specs.declared.Statement.{Statement}
 use Rattle.statement.specs.Statement.{refusedAs}
 use Rattle.writers.specs.inner.Wrote.{Wrote}
 use Rattle.writers.proofs.Writing.{none, counted}
-use Rattle.lines.specs.Lines.{refusalLine}
+use Rattle.printout.specs.Listing.{refusalLine}
 use Rattle.listing.specs.declared.Printed.{Printed}
-use Rattle.listing.specs.Listing.{listing, shown, checked, text, printed, buffer}
+use Rattle.printout.specs.Listing.{listing, shown}
+use Rattle.listing.specs.Buffer.{checked, text, printed, buffer}
 
 module _ (s : Statement) (out : List ℕ) where
   -- t and n are what printing returns, and `new` is the buffer that it leaves

@@ -13,9 +13,10 @@ ghost use lib.ListN.{length};
 ghost use Rattle.io.specs.Counts.{Counts};
 ghost use Rattle.writers.specs.inner.Prepended.{Prepended};
 ghost use Rattle.writers.specs.inner.Wrote.{Wrote};
-ghost use Rattle.lines.specs.Lines.{gtlLine, flowLines, paymentLines};
+ghost use Rattle.printout.specs.Lines.{gtlLine, flowLines, paymentLines};
 ghost use Rattle.lines.specs.inner.Room.{lineRoom};
-ghost use Rattle.listing.specs.Listing.{listing, shown, printed, buffer};
+ghost use Rattle.printout.specs.Listing.{listing, shown};
+ghost use Rattle.listing.specs.Buffer.{printed, buffer};
 
 // Room for every listing and every refusal's line, whatever the figures are: 15 lines, of which the name takes two and `gtl` three.
 pub const ROOM: usize = 15 * lines::LINE;

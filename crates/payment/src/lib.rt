@@ -2,7 +2,7 @@
 ghost use mathlib.Core.Path.{_≡_};
 ghost use Prim.Native.Nat.{_≤_};
 ghost use lib.IntN.{natAbs};
-ghost use Rattle.records.specs.Valid.{HeadFits};
+ghost use Rattle.record_rows.specs.inner.Valid.{HeadFits};
 ghost use Rattle.figures.specs.Payment.{price, amountOf, payment};
 ghost use Rattle.figures.specs.inner.Most.{mostDifference, mostAmount};
 ghost use Rattle.payment.specs.inner.Payment.{paymentOf, Payable};

@@ -10,11 +10,11 @@ use lib.ListN.{length}
 use lib.Signed.{_≤ℤ_}
 use Rattle.records.specs.Codes.{nyiso, common}
 use Rattle.records.specs.Content.{Content, head}
-use Rattle.records.specs.Valid.{Valid}
+use Rattle.record_rows.specs.inner.Valid.{Valid}
 use Rattle.entitlements.specs.declared.Entitlement.the-variants as found
 use Rattle.entitlements.specs.Entitlements.{row14, entriesOf, lookUp, entitlement}
-use Rattle.entitlements.proofs.Answers.{within}
-use Rattle.entitlements.proofs.Walk.{look-other-length}
+use Rattle.entitlements.proofs.Answers.{value-within}
+use Rattle.entitlements.proofs.ByRecord.{look-other-length}
 use Rattle.figures.specs.Balance.{balanceRow}
 use Rattle.figures.specs.Flow.{marketFlow, mostFlow, flowRow}
 use Rattle.figures.specs.Payment.{inWatts, difference, amount}
@@ -87,4 +87,4 @@ bounded sheet list z =
     let e = n .1 in
     let m = n .2 in
     rw (m .figures)
-    (figures-bounded c e (holds-valid sheet c (m .read)) (m .balanced) (m .inside) (within list (flowgate c) e (m .entitled)) (found-sized list (flowgate c) e (m .entitled)))
+    (figures-bounded c e (holds-valid sheet c (m .read)) (m .balanced) (m .inside) (value-within list (flowgate c) e (m .entitled)) (found-sized list (flowgate c) e (m .entitled)))

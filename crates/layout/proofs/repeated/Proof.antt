@@ -5,10 +5,10 @@ use native.Mathlib.Omega.{arith}
 use borrow.Author.Needs.{needs}
 use denote.Ref.{now}
 use lib.ListN.{length}
-use Rattle.name_index.proofs.Laws.{next-indexed}
-use Rattle.layout.specs.Layout.{firstOf}
-use Rattle.layout.specs.Listed.{tableSize, runOf}
-use Rattle.layout.proofs.Names.{name-room, repeated-at}
+use Rattle.name_index.proofs.Table.{next-indexed}
+use Rattle.layout.specs.inner.Places.{firstOf}
+use Rattle.layout.specs.inner.Listed.{tableSize, runOf}
+use Rattle.layout.proofs.Names.{named-room, repeated-at}
 use Rattle.layout.proofs.Listed.{count-named, listed-next}
 use Rattle.layout.proofs.repeated.Statement.{statement}
 use Rattle.layout.proofs.repeated.Tie as tie
@@ -58,7 +58,7 @@ seen-before-requires c κs =
     let n = b .before .before .count-of .ensures in
     let x = b .before .size-of .ensures .0 in
     let m = count-named (a .l) (a .kind) (omega arith) in
-    let r = name-room (a .kind) (p .pre .0) (omega arith) in
+    let r = named-room (a .kind) (p .pre .0) (omega arith) in
     let t = p .pre .5 in
     let e = t .full in
     (omega (arith, behind (b .before)), omega (arith, x), omega (arith, b .named-of .ensures), omega (arith, b .named-of .ensures, n), rw (begins (b .before), x, n, b .named-of .ensures .0) (t .holds (omega arith)))

@@ -3,7 +3,7 @@ use native.Mathlib.Omega.{arith}
 use borrow.Author.Needs.{needs}
 use Rattle.writers.proofs.Signs.{decimal-as-is}
 use Rattle.writers.proofs.Prepending.{ahead}
-use Rattle.lines.specs.Lines.{figure}
+use Rattle.printout.specs.Lines.{figure}
 use Rattle.lines.proofs.put_figure.Statement.{statement}
 use Rattle.lines.proofs.put_figure.Tie as tie
 

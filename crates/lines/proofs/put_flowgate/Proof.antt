@@ -3,7 +3,7 @@ use native.Mathlib.Omega.{arith}
 use borrow.Author.Needs.{needs}
 use Rattle.writers.specs.Text.{ascii}
 use Rattle.writers.proofs.Prepending.{ahead}
-use Rattle.lines.specs.Lines.{flowgateLine}
+use Rattle.printout.specs.Lines.{flowgateLine}
 use Rattle.lines.proofs.put_flowgate.Statement.{statement}
 use Rattle.lines.proofs.put_flowgate.Tie as tie
 

@@ -3,7 +3,7 @@ use native.Mathlib.Omega.{arith}
 use borrow.Author.Needs.{needs}
 use Rattle.writers.specs.Text.{ascii}
 use Rattle.writers.proofs.Prepending.{nothing}
-use Rattle.lines.specs.Lines.{joined, flowLines}
+use Rattle.printout.specs.Lines.{joined, flowLines}
 use Rattle.lines.proofs.Numbers.{line-ahead}
 use Rattle.lines.proofs.put_flows.Statement.{statement}
 use Rattle.lines.proofs.put_flows.Tie as tie

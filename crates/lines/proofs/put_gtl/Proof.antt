@@ -3,7 +3,7 @@ use native.Mathlib.Omega.{arith}
 use borrow.Author.Needs.{needs}
 use Rattle.writers.specs.Text.{ascii}
 use Rattle.writers.proofs.Prepending.{nothing}
-use Rattle.lines.specs.Lines.{joined, gtlLine}
+use Rattle.printout.specs.Lines.{joined, gtlLine}
 use Rattle.lines.proofs.Numbers.{line-ahead, figure-ahead}
 use Rattle.lines.proofs.put_gtl.Statement.{statement}
 use Rattle.lines.proofs.put_gtl.Tie as tie

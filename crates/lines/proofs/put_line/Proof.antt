@@ -3,7 +3,7 @@ use native.Mathlib.Omega.{arith}
 use borrow.Author.Needs.{needs}
 use Rattle.writers.specs.Text.{ascii}
 use Rattle.writers.proofs.Prepending.{ahead}
-use Rattle.lines.specs.Lines.{line}
+use Rattle.printout.specs.Lines.{line}
 use Rattle.lines.proofs.Numbers.{figure-as-is}
 use Rattle.lines.proofs.put_line.Statement.{statement}
 use Rattle.lines.proofs.put_line.Tie as tie

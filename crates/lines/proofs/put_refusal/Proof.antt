@@ -4,7 +4,7 @@ use borrow.Author.Needs.{needs}
 use mir.Syntax.{w64}
 use mir.ValLaws.{toZ-pos}
 use Rattle.writers.specs.Text.{ascii}
-use Rattle.lines.specs.Lines.{refusalLine}
+use Rattle.printout.specs.Listing.{refusalLine}
 use Rattle.lines.proofs.put_refusal.Statement.{statement}
 use Rattle.lines.proofs.put_refusal.Tie as tie
 

@@ -8,7 +8,7 @@ use lib.ListN.{length, take, drop, length-replicate}
 use Rattle.statement.specs.declared.Statement.{Statement}
 use Rattle.writers.proofs.Prepending.{whole}
 use Rattle.writers.proofs.Writing.{renamed}
-use Rattle.listing.specs.Listing.{listing}
+use Rattle.printout.specs.Listing.{listing}
 use Rattle.listing.proofs.Printing.{refused-before, too-short, fits}
 use Rattle.listing.proofs.print.Statement.{statement}
 use Rattle.listing.proofs.print.Tie as tie

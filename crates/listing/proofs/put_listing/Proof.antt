@@ -1,8 +1,8 @@
 -- `put_listing` writes the parts from the last to the first.
 use native.Mathlib.Omega.{arith}
 use Rattle.writers.proofs.Prepending.{nothing, ahead}
-use Rattle.lines.specs.Lines.{joined}
-use Rattle.listing.specs.Listing.{listing}
+use Rattle.printout.specs.Lines.{joined}
+use Rattle.printout.specs.Listing.{listing}
 use borrow.Author.Needs.{needs}
 use Rattle.listing.proofs.put_listing.Statement.{statement}
 use Rattle.listing.proofs.put_listing.Tie as tie

@@ -4,7 +4,7 @@ use native.Mathlib.Omega.{arith}
 use denote.Ref.{now}
 use borrow.Author.Needs.{needs}
 use Rattle.name_index.specs.inner.Index.{hashAt, withNext}
-use Rattle.name_index.proofs.Laws.{hash-small}
+use Rattle.name_index.proofs.Table.{hash-small}
 use Rattle.name_index.proofs.seen_before.Statement.{statement}
 use Rattle.name_index.proofs.seen_before.Tie as tie
 

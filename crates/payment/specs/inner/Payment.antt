@@ -3,7 +3,7 @@ use Prim.Native.Nat.{_≤_}
 use lib.IntN.{ℤ, natAbs, _-ℤ_}
 use Rattle.records.specs.declared.Head.{Head}
 use Rattle.records.specs.Codes.{nyiso, pjm}
-use Rattle.records.specs.Valid.{HeadFits}
+use Rattle.record_rows.specs.inner.Valid.{HeadFits}
 use Rattle.figures.specs.Flow.{mostFlow}
 use Rattle.figures.specs.Payment.{inWatts, price, amountOf, payment}
 use Rattle.payment.specs.declared.Payment.{Payment}
