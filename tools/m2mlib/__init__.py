@@ -1,1 +1,1 @@
-"""The front end of the settlement: text forms of sheets and lists, and the proved library's answers in words."""
+"""The front end of the settlement: sheets and lists as text, and the proved library's answers in words."""

@@ -12,9 +12,9 @@ from typing import NamedTuple
 
 from .forms import code_word
 from .records import (
-    BY_NUMBER, BY_WORD, FACTORS, LIST, SHEET, SUBJECTS, ZONE, factors_due, split, values, whole_kind,
+    BY_NUMBER, BY_WORD, FACTORS, LIST, SHEET, SUBJECTS, factors_due, split, values, whole_kind,
 )
-from .refusals import refusals
+from .refusals import words_of
 from .words import record_words
 
 END = 1 << 62
@@ -84,11 +84,11 @@ class Check:
     def tell(self, record, row, detail):
         row = 14 if self.kinds == LIST else row
         words = record_words(record.data, record.number, self.kinds)
-        line = f"{record.where}: {words}: {refusals()[row].title}: {detail} (refusal {row})"
+        line = f"{record.where}: {words}: {words_of(row).title}: {detail} (refusal {row})"
         self.told.append(Told(record.order, line))
 
     def tell_end(self, row, detail):
-        self.told.append(Told(END, f"the end: {refusals()[row].title}: {detail} (refusal {row})"))
+        self.told.append(Told(END, f"the end: {words_of(row).title}: {detail} (refusal {row})"))
 
     def run(self):
         highest, names = 0, {}

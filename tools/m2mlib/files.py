@@ -1,4 +1,4 @@
-"""Files in, and where the repository stands."""
+"""Files in, text out, and where the repository stands."""
 
 import os
 import sys
@@ -6,7 +6,7 @@ import sys
 from .trouble import Trouble
 
 ROOT = os.path.dirname(os.path.dirname(os.path.dirname(os.path.abspath(__file__))))
-LONGEST = 1 << 24
+LONGEST, CHUNK = 1 << 24, 1 << 17
 
 
 def read_file(path):
@@ -27,8 +27,15 @@ def read_input():
         raise Trouble(f"standard input: {reason}") from None
 
 
+def encoded(text):
+    """Text as it is printed; the bytes of a path that is no UTF-8 as they are."""
+    return text.encode("utf-8", "surrogateescape")
+
+
 def whole(file, path):
-    data = file.read(LONGEST + 1)
-    if len(data) > LONGEST:
-        raise Trouble(f"{path}: more than {LONGEST} bytes can't be a sheet or a list")
+    data = file.read(CHUNK)
+    while more := file.read(CHUNK):
+        data += more
+        if len(data) > LONGEST:
+            raise Trouble(f"{path}: more than {LONGEST} bytes can't be a sheet or a list")
     return data

@@ -1,10 +1,31 @@
-"""A record as a line of text, by the table of records: words to bytes, and bytes to words."""
+"""The forms of lines, and a record as a line by the table of records: words to bytes, bytes to words."""
 
 import difflib
 
 from .lines import hex_bytes, name_bytes, name_word, number
 from .records import BY_NUMBER, BY_WORD, split, values, whole_kind
 from .trouble import Fault, shown
+
+
+FORMS = {
+    "factors": "factors TARGET SUBJECT VALUE ..",
+    "due": "due VALUE",
+    "repeat": "repeat VAR FROM TO",
+    "end": "end",
+    "include": "include PATH",
+    "raw": "raw HEX ..",
+    "replace": "replace N LINE",
+    "insert": "insert N LINE",
+    "drop": "drop N",
+    "swap": "swap N M",
+    "patch": "patch PLACE HEX ..",
+    "cut": "cut N",
+}
+
+
+def form_of(word):
+    """The form of a line that begins so, if it is known."""
+    return BY_WORD[word].form if word in BY_WORD else FORMS.get(word, "")
 
 
 def write_record(words, zones):
@@ -77,6 +98,8 @@ def wanted(field):
 
 def code(word, codes):
     """A code's number; case and hyphens do not matter."""
+    if word in codes:
+        return codes[word]
     plain = word.lower().replace("-", "")
     return next((value for listed, value in codes.items() if listed.lower() == plain), None)
 

@@ -23,15 +23,15 @@ class Input(NamedTuple):
 
 
 class Interval(NamedTuple):
-    """One sheet and its list, by their paths; None for a list that is not there."""
+    """One sheet and its list, by the paths that may hold them: a folder has each as text, bytes or both."""
 
     name: str
-    sheet: str
-    entitlements: str
+    sheets: tuple
+    lists: tuple
 
 
 def is_text(path, data):
-    """Whether a file is text: by its content, but .bin is always bytes. Every record begins with a control byte."""
+    """Whether a file is text. Every record begins with a control byte; .bin is always bytes."""
     if path.endswith(".bin"):
         return False
     return data.startswith(UTF16) or not CONTROL.search(data)
@@ -39,8 +39,6 @@ def is_text(path, data):
 
 def load(path):
     """A sheet or list, from text or bytes."""
-    if path is None:
-        return Input("", b"")
     data = read_file(path)
     if not is_text(path, data):
         return Input(path, data)
@@ -48,38 +46,46 @@ def load(path):
     return Input(path, text.data(), text)
 
 
+def load_one(paths):
+    """What these paths hold; where there are several they must say the same, where there is none it is empty."""
+    loaded = [load(path) for path in paths] or [Input("", b"")]
+    if any(other.data != loaded[0].data for other in loaded):
+        raise Trouble(f"{' and '.join(paths)} say different things: take one away, or name the files")
+    return loaded[0]
+
+
 def intervals(paths, entitlements=None):
     """The intervals that the arguments of 'settle' name, in order; folders are searched."""
-    if entitlements is None and paths and not any(map(os.path.isdir, paths)):
+    for path in (*paths, entitlements or os.curdir):
+        if not os.path.exists(path):
+            raise Trouble(f"{path}: there is no such file or folder")
+    if entitlements is None and not any(map(os.path.isdir, paths)):
         if len(paths) != 2:
             raise Trouble("a sheet and a list are wanted, or folders")
-        return [Interval(paths[0], paths[0], paths[1])]
+        return [Interval(paths[0], (paths[0],), (paths[1],))]
+    lists = () if entitlements is None else (entitlements,)
     found = []
     for path in paths:
         if os.path.isdir(path):
-            inside = list(below(path, entitlements))
+            inside = list(below(path, lists))
             if not inside:
                 raise Trouble(f"{path}: no {' or '.join(SHEETS)} in it or below it")
             found += inside
-        elif entitlements is None:
-            raise Trouble(f"{path}: is no folder; a sheet is named with its list, or with --list")
+        elif lists:
+            found.append(Interval(path, (path,), lists))
         else:
-            found.append(Interval(path, path, entitlements))
+            raise Trouble(f"{path}: is no folder; a sheet is named with its list, or with --list")
     return found
 
 
-def below(path, entitlements):
-    """The intervals of a folder and all folders in it."""
+def below(path, lists):
+    """The intervals of a folder and all folders in it, in the order of their names."""
     for folder, folders, files in os.walk(path):
         folders.sort()
-        sheet = chosen(folder, SHEETS, files)
-        if sheet:
-            yield Interval(folder, sheet, entitlements or chosen(folder, LISTS, files))
+        sheets = present(folder, SHEETS, files)
+        if sheets:
+            yield Interval(folder, sheets, lists or present(folder, LISTS, files))
 
 
-def chosen(folder, names, files):
-    """The file of this folder that has one of the names; where it has both they must say the same."""
-    paths = [os.path.join(folder, name) for name in names if name in files]
-    if len(paths) == 2 and load(paths[0]).data != load(paths[1]).data:
-        raise Trouble(f"{paths[0]} and {names[1]} say different things: take one away, or name the files")
-    return paths[0] if paths else None
+def present(folder, names, files):
+    return tuple(os.path.join(folder, name) for name in names if name in files)

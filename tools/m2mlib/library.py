@@ -10,7 +10,7 @@ ROOM = 394  # include/m2m.h: no listing is longer
 
 
 class Figure(NamedTuple):
-    """A figure of the statement: its unit, what it is, and how many digits lie behind the point of its everyday unit."""
+    """A figure of the statement: its unit, what it is, and its everyday unit with the digits behind its point."""
 
     name: str
     unit: str = ""

@@ -24,7 +24,7 @@ LARGEST = 1 << 64
 
 
 def lines_of(name, data):
-    """The lines of a text: ended by line feed, carriage return or both; a byte order mark is no part of it."""
+    """The lines of a text, ended by line feed, carriage return or both; a byte order mark is passed over."""
     if data[:2] in (b"\xff\xfe", b"\xfe\xff"):
         raise Fault(f"{name} is UTF-16: save it as UTF-8")
     text = data.removeprefix(b"\xef\xbb\xbf").decode("latin-1")

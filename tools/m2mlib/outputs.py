@@ -5,8 +5,9 @@ import io
 import json
 import textwrap
 
+from .files import encoded
 from .library import FIGURES
-from .refusals import refusals
+from .refusals import words_of
 from .words import everyday, name_text, record_at, refusal_words
 
 LABELS = {"nyiso": "NYISO", "pjm": "PJM"}
@@ -74,10 +75,6 @@ FORMATS = {"--words": Words, "--json": Json, "--csv": Csv}
 IDENTITY = ("interval", "refusal", "reason", "place", "record", "flowgate", "flowgate_hex")
 
 
-def encoded(text):
-    return text.encode("utf-8", "surrogateescape")
-
-
 def csv_line(values):
     line = io.StringIO()
     csv.writer(line, lineterminator="\n").writerow(values)
@@ -94,7 +91,7 @@ def columns(result):
     name = bytes(statement.name)
     record = record_at(result.sheet.data, result.place) if result.place is not None else None
     row = dict(zip(IDENTITY, (
-        result.name, refused, refusals()[refused].title if refused else None, result.place, record,
+        result.name, refused, words_of(refused).title if refused else None, result.place, record,
         None if refused else name_text(name), None if refused else name.rstrip(b"\0").hex(),
     )))
     row.update((heading(f), None if refused else getattr(statement, f.name)) for f in FIGURES)
@@ -109,8 +106,8 @@ def accepted_words(statement):
         value = getattr(statement, figure.name)
         label = LABELS.get(figure.name, figure.name)
         if figure.name not in REMAINDERS:
-            exact = f"{value} {figure.unit}"
-            lines.append(f"{label:<12} {everyday(value, figure):>20}   {exact:<34} {meaning(figure, statement)}")
+            exact, said = f"{value} {figure.unit}", meaning(figure, statement)
+            lines.append(f"{label:<12} {everyday(value, figure):>20}   {exact:<34} {said}")
     return [line.rstrip() for line in lines]
 
 

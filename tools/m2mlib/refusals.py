@@ -6,7 +6,9 @@ from functools import lru_cache
 from typing import NamedTuple
 
 from .files import ROOT, read_file
+from .trouble import Trouble
 
+PAGE = os.path.join(ROOT, "docs", "REFUSALS.md")
 SECTION = re.compile(r"^## (\d+): (.*?)\n(.*?)(?=^## |\Z)", re.M | re.S)
 PARTS = re.compile(r"\A\s*(.*?)\n\n.*^Mend: (.*?)(?:\sMore:.*)?\Z", re.M | re.S)
 EXAMPLE = re.compile(r"^```text\n(# .*?)^```", re.M | re.S)
@@ -22,13 +24,23 @@ class Refusal(NamedTuple):
 @lru_cache(maxsize=None)
 def refusals():
     """All refusals by number."""
-    text = read_file(os.path.join(ROOT, "docs", "REFUSALS.md")).decode("utf-8", "replace")
-    return {int(k): refusal(title, body) for k, title, body in SECTION.findall(text)}
+    text = read_file(PAGE).decode("utf-8", "replace")
+    return {int(k): refusal(k, title, body) for k, title, body in SECTION.findall(text)}
 
 
-def refusal(title, body):
-    meaning, mend = (plain(part) for part in PARTS.match(body).groups())
+def refusal(number, title, body):
+    parts = PARTS.match(body)
+    if not parts:
+        raise Trouble(f"{PAGE}: section {number} has no paragraph, or no 'Mend:'")
+    meaning, mend = (plain(part) for part in parts.groups())
     return Refusal(title, meaning, mend, EXAMPLE.findall(body))
+
+
+def words_of(number):
+    """The words of one refusal."""
+    if number not in refusals():
+        raise Trouble(f"{PAGE}: no section tells of refusal {number}")
+    return refusals()[number]
 
 
 def plain(text):

@@ -5,42 +5,14 @@ from collections import Counter
 from itertools import islice
 from typing import NamedTuple
 
+from .blocks import DEEPEST, Line, Reader
 from .files import ROOT, read_file
-from .forms import write_record
-from .lines import fill_in, hex_bytes, lines_of, name_bytes, number, split_words
+from .forms import FORMS, form_of, write_record
+from .lines import fill_in, hex_bytes, name_bytes, number
 from .records import BY_NUMBER, BY_WORD, ZONE, factors_due, whole_kind
 from .trouble import Fault, Trouble, shown
 
-FORMS = {
-    "factors": "factors TARGET SUBJECT VALUE ..",
-    "due": "due VALUE",
-    "repeat": "repeat VAR FROM TO",
-    "end": "end",
-    "include": "include PATH",
-    "raw": "raw HEX ..",
-    "replace": "replace N LINE",
-    "insert": "insert N LINE",
-    "drop": "drop N",
-    "swap": "swap N M",
-    "patch": "patch PLACE HEX ..",
-    "cut": "cut N",
-}
 MOST_STEPS = 100_000
-DEEPEST = 20
-
-
-class Line(NamedTuple):
-    """A line with its place, text and words; a repeat has its inner lines too."""
-
-    name: str
-    number: int
-    text: str
-    words: list
-    inner: list = None
-
-    @property
-    def where(self):
-        return f"{self.name} line {self.number}"
 
 
 class Piece(NamedTuple):
@@ -51,14 +23,13 @@ class Piece(NamedTuple):
     faulty: bool = False
 
 
-class Text:
+class Text(Reader):
     """The records of a text. A fault is raised, or kept where all are to be told."""
 
     def __init__(self, path="", keep_faults=False):
-        self.name = path or "text"
-        self.open = [os.path.realpath(path)] if path else []
+        super().__init__(path or "text", keep_faults)
+        self.open = [path] if path else []
         self.pieces, self.steps = [], 0
-        self.faults = {} if keep_faults else None
 
     def data(self):
         return b"".join(piece.data for piece in self.pieces)
@@ -67,50 +38,6 @@ class Text:
         """Takes the lines of a text."""
         self.run(self.lines(self.name, data), {})
         return self
-
-    def lines(self, name, data):
-        """The lines of a text as a tree."""
-        return self.tree(self.numbered(name, data), None, 0)
-
-    def numbered(self, name, data):
-        """The lines of a text that hold words."""
-        for k, text in enumerate(lines_of(name, data), 1):
-            line = Line(name, k, text, [])
-            try:
-                words = split_words(text)
-            except Fault as fault:
-                fault.form = form_of((text.split() or [""])[0].lower())
-                self.fault(fault, line)
-                continue
-            if words:
-                yield line._replace(words=words)
-
-    def tree(self, lines, opened, depth):
-        """The lines down to the 'end' of the repeat that was opened, other repeats in it whole."""
-        tree = []
-        for line in lines:
-            word = line.words[0].lower()
-            if word == "end" and (not opened or line.words[1:]):
-                said = "nothing stands behind 'end'" if opened else "no repeat is open"
-                self.fault(Fault(said, FORMS["end"]), line)
-            if word == "end" and opened:
-                return tree
-            if word == "repeat" and depth == DEEPEST:
-                self.fault(Fault("repeats nested too deep", final=True), line)
-            if word == "repeat":
-                line = line._replace(inner=self.tree(lines, line, depth + 1))
-            if word != "end":
-                tree.append(line)
-        if opened:
-            self.fault(Fault("its 'end' is missing", FORMS["repeat"]), opened)
-        return tree
-
-    def fault(self, fault, line):
-        """Raises a fault of a line, or keeps it."""
-        fault.at(line)
-        if self.faults is None or fault.final:
-            raise fault
-        self.faults.setdefault(str(fault), fault)
 
     def run(self, lines, variables):
         for line in lines:
@@ -133,21 +60,22 @@ class Text:
             self.due(line, variables)
         elif word in DIRECTIVES:
             try:
-                DIRECTIVES[word](self, self.filled(line.words[1:], variables), line, variables)
+                DIRECTIVES[word](self, self.filled(line.words[1:], line, variables), line, variables)
             except Fault as fault:
                 fault.form = fault.form or FORMS[word]
                 raise
         else:
             self.record(line, variables)
 
-    def filled(self, words, variables):
-        return [fill_in(word, variables) for word in words]
+    def filled(self, words, line, variables):
+        """Words of a line with what $ stands for."""
+        return [fill_in(word, variables) for word in words] if "$" in line.text else words
 
     def record(self, line, variables):
         """A record line. A faulty one still counts as a record of its kind where faults are kept."""
         word = line.words[0].lower()
         try:
-            words = self.filled(line.words, variables)
+            words = self.filled(line.words, line, variables)
             self.pieces.append(Piece(write_record(words, self.zones), line))
         except Fault as fault:
             fault.form = fault.form or form_of(word)
@@ -168,7 +96,7 @@ class Text:
         name, *bounds = form(line.words[1:], 3, "repeat")
         if not name.isascii() or not name.isalpha() or not name.islower():
             raise Fault(f"'{shown(name)}' is no variable: lower-case letters are wanted", FORMS["repeat"])
-        first, last = (number(word) for word in self.filled(bounds, variables))
+        first, last = (number(word) for word in self.filled(bounds, line, variables))
         for value in range(first, last + 1):
             self.count_step()
             self.run(line.inner, {**variables, name: value})
@@ -203,8 +131,10 @@ class Text:
         if "\0" in path:
             raise Fault("a path holds no zero byte")
         path = included(os.fsdecode(path.encode("latin-1")), self.open[-1] if self.open else "")
-        if path in self.open or len(self.open) > DEEPEST:
-            raise Fault("the text includes itself" if path in self.open else "includes nested too deep")
+        if path in map(os.path.realpath, self.open):
+            raise Fault("the text includes itself")
+        if len(self.open) > DEEPEST:
+            raise Fault("includes nested too deep")
         self.open.append(path)
         try:
             self.run(self.lines(path, read_file(path)), variables)
@@ -262,11 +192,6 @@ DIRECTIVES = {
     name[3:]: function for name, function in vars(Text).items() if name.startswith("do_")
 }
 ZONE_BYTE = bytes([ZONE])
-
-
-def form_of(word):
-    """The form of a line that begins so, if it is known."""
-    return BY_WORD[word].form if word in BY_WORD else FORMS.get(word, "")
 
 
 def stand_in(kind, words):

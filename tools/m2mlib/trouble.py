@@ -1,6 +1,10 @@
 """What ends a run, and how bytes that are no plain text are shown in a message."""
 
 
+import sys
+from contextlib import suppress
+
+
 class Trouble(Exception):
     """Why something can't be done, in a sentence."""
 
@@ -27,8 +31,15 @@ class Fault(Trouble):
         return "\n    ".join(parts)
 
 
+def warn(line):
+    """Tells a line on standard error, if that can be written to."""
+    with suppress(OSError, AttributeError):
+        sys.stderr.write(f"m2m: {line}\n")
+        sys.stderr.flush()
+
+
 def shown(text, most=200):
-    """Text whose characters are bytes, for a message: UTF-8 where it is that, no control bytes, not too long."""
+    """Text whose characters are bytes, for a message: as UTF-8, without control bytes, not too long."""
     plain = text.encode("latin-1", "replace").decode("utf-8", "backslashreplace")
     plain = "".join(c if c.isprintable() else c.encode("unicode_escape").decode() for c in plain)
     return plain if len(plain) <= most else plain[:most] + " .."

@@ -13,7 +13,7 @@ from .manual import manual
 from .records import LIST, SHEET
 from .settle import settle
 from .text import Text
-from .trouble import Trouble
+from .trouble import Trouble, warn
 
 HELP = os.path.join(os.path.dirname(os.path.abspath(__file__)), "help.txt")
 
@@ -35,24 +35,8 @@ class Verb(NamedTuple):
     options: tuple = ()
 
 
-def warn(line):
-    if sys.stderr is not None:
-        print(f"m2m: {line}", file=sys.stderr, flush=True)
-
-
-def run_settle(call):
-    return settle(call.arguments, call.options, call.output, warn)
-
-
-def run_check(call):
-    return check(call.arguments, call.output)
-
-
-def run_show(call):
-    return show_file(call.arguments[0], call.output)
-
-
-def run_text(call):
+def text(call):
+    """The verb text: its jobs, both ways."""
     job, *paths = call.arguments
     if job not in TEXT_JOBS or bool(paths) != (job == "cases"):
         raise Trouble(f"'text' wants one of {', '.join(TEXT_JOBS)}; 'cases' alone takes paths")
@@ -80,45 +64,45 @@ TEXT_JOBS = {
 }
 
 
-def run_help(call):
+def tell_help(call):
     call.output.write(read_file(HELP))
     return 0
 
 
-def run_manual(call):
+def tell_manual(call):
     call.output.write(manual(read_file(HELP).decode("utf-8")).encode("utf-8"))
     return 0
 
 
+SEE = "'m2m --help' tells all"
 ANY = 1 << 62
 VERBS = {
-    "settle": Verb(run_settle, 1, ANY, ("words", "json", "csv", "list=")),
-    "check": Verb(run_check, 1, ANY),
-    "show": Verb(run_show, 1, 1),
-    "text": Verb(run_text, 1, ANY),
-    "help": Verb(run_help, 0, ANY),
-    "manual": Verb(run_manual, 0, 0),
+    "settle": Verb(settle, 1, ANY, ("words", "json", "csv", "list=")),
+    "check": Verb(check, 1, ANY),
+    "show": Verb(show_file, 1, 1),
+    "text": Verb(text, 1, ANY),
+    "help": Verb(tell_help, 0, ANY),
+    "manual": Verb(tell_manual, 0, 0),
 }
 
 
 def call_verb(arguments, output):
     """Runs what the arguments ask for; the status."""
     word, *rest = arguments or [""]
-    if word in ("-h", "--help"):
-        word = "help"
+    word = "help" if word in ("-h", "--help") else word
     if word not in VERBS:
-        known = ", ".join(VERBS)
-        raise Trouble(f"'{word}' is no verb; there are {known}. 'm2m --help' tells all" if word else f"a verb is wanted: {known}. 'm2m --help' tells all")
+        said = f"'{word}' is no verb" if word else "a verb is wanted"
+        raise Trouble(f"{said}: there are {', '.join(VERBS)}; {SEE}")
     verb = VERBS[word]
     try:
         options, rest = getopt.gnu_getopt(rest, "h", ["help", *verb.options])
     except getopt.GetoptError as error:
-        raise Trouble(f"{word}: {error.msg}; 'm2m --help' tells all") from None
+        raise Trouble(f"{word}: {error.msg}; {SEE}") from None
     if any(option in ("-h", "--help") for option, _ in options):
         verb, rest = VERBS["help"], []
     if not verb.least <= len(rest) <= verb.most:
         count = "more" if len(rest) < verb.least else "fewer"
-        raise Trouble(f"{word}: {count} arguments are wanted; 'm2m --help' tells all")
+        raise Trouble(f"{word}: {count} arguments are wanted; {SEE}")
     return verb.run(Call(rest, dict(options), output))
 
 

@@ -4,7 +4,7 @@ from collections import Counter
 
 from .lines import name_word
 from .records import BY_NUMBER, SHEET, split, whole_kind
-from .refusals import refusals
+from .refusals import words_of
 
 
 def name_text(name):
@@ -58,7 +58,7 @@ def line_at(text, place):
 
 def refusal_words(number, sheet, place, entitlements):
     """A refusal's lines: what it is, where, what it means and how it is mended."""
-    refusal = refusals()[number]
+    refusal = words_of(number)
     lines = [("", f"refused {number}: {refusal.title}")]
     if place is not None:
         lines.append(("where", f"byte {place} of the sheet: {record_at(sheet.data, place)}"))

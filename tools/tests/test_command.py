@@ -75,7 +75,7 @@ class Command(unittest.TestCase):
                 self.assert_told(outcome, 2, b"No space left")
 
     def test_closed_input_and_output(self):
-        for redirection in ("<&-", ">&-", "<&- >&-", "2>&- <&-"):
+        for redirection in ("<&-", ">&-", "<&- >&-", "2>&- <&-", "2>/dev/full <&-"):
             command = f"'{TOOL}' text sheet {redirection}"
             outcome = subprocess.run(["sh", "-c", command], capture_output=True, check=False)
             self.assertEqual(outcome.returncode, 2, redirection)

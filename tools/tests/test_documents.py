@@ -4,11 +4,12 @@ import re
 import unittest
 
 from common import content
+from m2mlib.forms import FORMS
 from m2mlib.library import FIGURES
 from m2mlib.manual import manual
 from m2mlib.records import BY_NUMBER, KINDS
 from m2mlib.refusals import refusals
-from m2mlib.text import DIRECTIVES, FORMS
+from m2mlib.text import DIRECTIVES
 from m2mlib.verbs import TEXT_JOBS, VERBS
 
 HELP = content("tools/m2mlib/help.txt").decode()

@@ -7,9 +7,9 @@ import unittest
 from common import ROOT, content
 from m2mlib.cases import case_files
 from m2mlib.faults import faults
-from m2mlib.forms import show
+from m2mlib.forms import FORMS, show
 from m2mlib.records import kinds_of
-from m2mlib.text import DIRECTIVES, FORMS, Text
+from m2mlib.text import DIRECTIVES, Text
 from m2mlib.trouble import Trouble
 
 COUNT = 20_000

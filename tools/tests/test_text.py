@@ -50,7 +50,8 @@ class Records(unittest.TestCase):
         self.assertEqual(to_bytes('zone "" load 0 losses 0')[1:17], bytes(16))
 
     def test_codes_and_words_in_any_case(self):
-        plain = to_bytes("head F monitoring PJM seconds 1 prices 1 1\npoint P noncommon proxy import 1 export 1")
+        head = "head F monitoring PJM seconds 1 prices 1 1\n"
+        plain = to_bytes(head + "point P noncommon proxy import 1 export 1")
         other = "HEAD F Monitoring pjm Seconds 1 PRICES 1 1\nPoint P Non-Common Proxy import 1 export 1"
         self.assertEqual(to_bytes(other), plain)
         self.assertEqual(to_bytes("par T Common actual 0 target 0")[17], 1)

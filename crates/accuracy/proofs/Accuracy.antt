@@ -20,16 +20,16 @@ use Rattle.quotient.proofs.Laws.{whole}
 use Rattle.records.specs.declared.Head.{Head}
 use Rattle.records.specs.Codes.{common, noncommon}
 use Rattle.records.specs.Content.{Content, head, par}
-use Rattle.records.specs.Valid.{Valid}
+use Rattle.record_rows.specs.inner.Valid.{Valid}
 use Rattle.figures.specs.Balance.{netLoad, netGeneration, finalGeneration, grossOutput, balanceRow}
 use Rattle.figures.specs.Flow.{weightedOutput, weightedLoad, firstDividend, loadShare, firstRemainder, grossFlow, secondDividend, generationToLoad, secondRemainder, parallel, shadow, parFactor, control, carriedTerm, carriedSum, carried, redirect, nyisoMonitors, nonCommonRedirect, marketFlow}
 use Rattle.figures.specs.Payment.{inWatts, difference, amountOf, amount}
 use Rattle.figures.proofs.Balanced.{net-load-above, net-generation-above, final-generation-least, final-generation-most}
 use Rattle.figures.proofs.Factors.{par-factor-within}
-use Rattle.accuracy.specs.Fraction.{Fraction, entire, _⊕_, _⊖_, _⊗_, _⊘_, half, _≼_, Equals, Near}
+use Rattle.accuracy.specs.Fraction.{Fraction, entire, _⊕_, _⊖_, _⊗_, _⊘_, half, Equals, Near}
 use Rattle.accuracy.specs.Exact.{exactGenerationToLoad, exactCarriedTerm, exactRedirect, exactNonCommonRedirect, exactMarketFlow, exactDifference, exactAmountOf, exactAmount}
 use Rattle.accuracy.specs.Accurate.{flowBound, marketBound, amountBound, Accurate}
-use Rattle.accuracy.proofs.FractionLaws.{near-self, near-minus, near-wide, near-times, near-rounded, near-more, near-less, near-sum, entire-above}
+use Rattle.accuracy.proofs.FractionLaws.{_≼_, near-self, near-minus, near-wide, near-times, near-rounded, near-more, near-less, near-sum, entire-above}
 use Rattle.accuracy.proofs.PaymentLaws.{near-pay}
 
 -- a number that is not negative is its own size

@@ -8,17 +8,17 @@ use lib.IntN.{ℤ, pos, negsuc, natAbs, _-ℤ_, _*ℤ_}
 use lib.ListN.{length}
 use lib.Signed.{_<ℤ_}
 use Rattle.records.specs.declared.Place.the-variants.{Proxy}
-use Rattle.records.specs.Codes.{common, noncommon}
+use Rattle.records.specs.Codes.{pjm, common, noncommon}
 use Rattle.records.specs.Content.{Content, head}
-use Rattle.records.specs.Valid.{Valid}
+use Rattle.record_rows.specs.inner.Valid.{Valid}
 use Rattle.figures.specs.Balance.{balanceRow}
 use Rattle.figures.specs.Flow.{marketFlow}
 use Rattle.figures.specs.Payment.{difference, price, amount}
 use Rattle.figures.proofs.Examples.{printed, refused, headOf, zoneOf, unitOf, pointOf, parOf, factorOf, plain, sheetS, thirds, exporting}
 use Rattle.figures.proofs.Accepted.{proxy-fits, dueCount, valid-of, s-valid, s-balanced}
-use Rattle.accuracy.specs.Fraction.{Fraction, entire, _⊕_, _⊖_, _⊗_, _⊘_, sumOf, Equals, Near}
+use Rattle.accuracy.specs.Fraction.{Fraction, entire, _⊕_, _⊖_, _⊗_, _⊘_, half, sumOf, Equals, Near}
 use Rattle.accuracy.specs.Exact.{exactGenerationToLoad, exactCarriedTerm, exactRedirect, exactNonCommonRedirect, exactMarketFlow, exactDifference, exactPrice, exactAmountOf, exactAmount}
-use Rattle.accuracy.specs.Accurate.{marketBound, Accurate}
+use Rattle.accuracy.specs.Accurate.{marketBound, dearerPrice, amountBound, Accurate}
 use Rattle.accuracy.proofs.Accuracy.{accurate}
 
 -- the exact amount, and all that it goes through
@@ -67,6 +67,23 @@ brink-prices = refl
 pub brink-amounts : (amount brink (pos 1) ≡ pos 0) × (exactAmount brink (pos 1) .numerator *ℤ pos 3 ≡ negsuc 99 *ℤ exactAmount brink (pos 1) .denominator)
 unfolding settled
 brink-amounts = (refl, refl)
+
+-- which is near enough by the bound's seconds
+pub brink-near : Near (amount brink (pos 1)) (exactAmount brink (pos 1)) (amountBound (head brink) (marketBound brink))
+unfolding settled half dearerPrice marketBound amountBound
+brink-near = record { above = record { lt = tt }; bound = record { lt = tt }; apart = record { le = tt } }
+
+-- At 1 cent for 1 s the amount of 1,800,000 W is 1, and the exact one 1/2: near enough by the bound's half
+abbrev halved : Content
+halved = plain (headOf pjm 1 1 1) (zoneOf 100 0 ∷ []) (unitOf 1 100 ∷ []) [] (factorOf 0 1 1 (pos 1800) ∷ factorOf 0 2 1 (pos 0) ∷ [])
+
+pub halved-amounts : (amount halved (pos 0) ≡ pos 1) × (exactAmount halved (pos 0) .numerator *ℤ pos 2 ≡ exactAmount halved (pos 0) .denominator)
+unfolding settled
+halved-amounts = (refl, refl)
+
+pub halved-near : Near (amount halved (pos 0)) (exactAmount halved (pos 0)) (amountBound (head halved) (marketBound halved))
+unfolding settled half dearerPrice marketBound amountBound
+halved-near = record { above = record { lt = tt }; bound = record { lt = tt }; apart = record { le = tt } }
 
 -- With a PAR of each class the market flow is 3118 W and the exact one 202437/65 W, 3.58 W less: p + 2 W is far enough, and p + 1 W is not
 abbrev far : Content

@@ -15,7 +15,12 @@ use Rattle.integers.proofs.Tactic.{zi, zo, le-mul-abs}
 use Rattle.quotient.specs.Rounded.{quotient, remainder}
 use Rattle.quotient.proofs.Laws.{whole, near}
 use Rattle.figures.proofs.Numbers.{natural-least}
-use Rattle.accuracy.specs.Fraction.{Fraction, entire, _⊕_, _⊖_, _⊗_, _⊘_, half, sumOf, _≼_, Near}
+use Rattle.accuracy.specs.Fraction.{Fraction, entire, _⊕_, _⊖_, _⊗_, _⊘_, half, sumOf, Near}
+
+-- f is at most g
+infix 4 _≼_
+pub record _≼_ (f g : Fraction) : Type 0 where
+  pub most : (f .numerator *ℤ g .denominator) ≤ℤ (g .numerator *ℤ f .denominator)
 
 -- a product of numbers above zero
 pos-step : (x y : ℤ) → pos 0 <ℤ x → (x *ℤ pos 1) ≤ℤ (x *ℤ y) → pos 0 <ℤ (x *ℤ y)

@@ -36,11 +36,6 @@ unfoldable pub sumOf : (ℕ → Fraction) → ℕ → Fraction
 sumOf f zero = entire (pos 0)
 sumOf f (suc n) = sumOf f n ⊕ f n
 
--- f is at most g
-infix 4 _≼_
-pub record _≼_ (f g : Fraction) : Type 0 where
-  pub most : (f .numerator *ℤ g .denominator) ≤ℤ (g .numerator *ℤ f .denominator)
-
 -- the whole number x is f
 pub record Equals (x : ℤ) (f : Fraction) : Type 0 where
   pub above : pos 0 <ℤ f .denominator

@@ -15,7 +15,7 @@ use Rattle.integers.proofs.Sums.{sum-zero, sum-suc, sum-abs}
 use Rattle.records.specs.declared.Place.{Place}
 use Rattle.records.specs.declared.Place.the-variants.{Proxy, Line}
 use Rattle.records.specs.Content.{Content, zone, unit, point}
-use Rattle.records.specs.Valid.{Valid, LineFits, PointFits}
+use Rattle.record_rows.specs.inner.Valid.{Valid, LineFits, PointFits}
 use Rattle.balance.specs.declared.Booking.{Booking}
 use Rattle.balance.specs.declared.Ledger.{Ledger}
 use Rattle.balance.specs.declared.Ledger.the-variants.{Loads, Outputs, Imports, Exports}

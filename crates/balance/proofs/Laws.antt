@@ -21,7 +21,7 @@ use Rattle.integers.proofs.Sums.{sum-same, sum-pick, sum-abs}
 use Rattle.records.specs.declared.Place.{Place}
 use Rattle.records.specs.declared.Place.the-variants.{Proxy, Line}
 use Rattle.records.specs.Content.{Content, zone, unit, point}
-use Rattle.records.specs.Valid.{Valid, LineFits}
+use Rattle.record_rows.specs.inner.Valid.{Valid, LineFits}
 use Rattle.figures.specs.Balance.{samePlace, importAt, imports, exportAt, exports, totalLoad, output, outputIn, zoneOutput}
 use Rattle.balance.specs.declared.Ledger.the-variants.{Loads, Outputs, Imports, Exports}
 use Rattle.balance.specs.inner.Ledger.{numberOf, bookingOf, bookings, bookedAt, sumAt, Small, amountAt, netAt}
@@ -69,17 +69,17 @@ module _ (c : Content) (v : Valid c) where
 
 -- what an array has at a zone, and what one has more than another, as the machine works it out
 module _ (p : List ℕ) (hp : Small p) (z : ℕ) (h : z < 32) where
-  pub amount : (r : ℤ) → r ≡ amountAt p z → Num (rd r) (amountAt p z) 1024000000
+  pub amount-num : (r : ℤ) → r ≡ amountAt p z → Num (rd r) (amountAt p z) 1024000000
   unfolding amountAt
-  amount r e = num-is r _ 1024000000 e (hp .most (z + 1) (omega arith)) (lit< tt)
+  amount-num r e = num-is r _ 1024000000 e (hp .most (z + 1) (omega arith)) (lit< tt)
 
   pub amount-most : natAbs (amountAt p z) ≤ 1024000000
   unfolding amountAt
   amount-most = hp .most (z + 1) (omega arith)
 
-pub net : (p m : List ℕ) → Small p → Small m → (z : ℕ) → z < 32 → (x y : ℤ) → x ≡ amountAt p z → y ≡ amountAt m z → Op (rd x -ℤ rd y) (netAt p m z) 2048000000
+pub net-at-op : (p m : List ℕ) → Small p → Small m → (z : ℕ) → z < 32 → (x y : ℤ) → x ≡ amountAt p z → y ≡ amountAt m z → Op (rd x -ℤ rd y) (netAt p m z) 2048000000
 unfolding netAt
-net p m hp hm z h x y ex ey = sub (amount p hp z h x ex) (amount m hm z h y ey) (lit< tt)
+net-at-op p m hp hm z h x y ex ey = sub (amount-num p hp z h x ex) (amount-num m hm z h y ey) (lit< tt)
 
 -- a side's sums
 pub total-num : (p : List ℕ) → Small p → (zones : ℕ) → zones ≤ 32 → (r : ℤ) → r ≡ total p zones → Num (rd r) (total p zones) 32768000000
@@ -87,11 +87,11 @@ unfolding total
 total-num p hp zones h r e = num-is r _ 32768000000 e (omega (arith, sum-abs (amountAt p) 1024000000 zones (λ k l. amount-most p hp k (omega arith)))) (lit< tt)
 
 module _ (p m : List ℕ) (hp : Small p) (hm : Small m) (zones : ℕ) (h : zones ≤ 32) (x y : ℤ) (ex : x ≡ total p zones) (ey : y ≡ total m zones) where
-  pub net-sum : Op (rd x -ℤ rd y) (total p zones -ℤ total m zones) 65536000000
-  net-sum = sub (total-num p hp zones h x ex) (total-num m hm zones h y ey) (lit< tt)
+  pub net-sum-op : Op (rd x -ℤ rd y) (total p zones -ℤ total m zones) 65536000000
+  net-sum-op = sub (total-num p hp zones h x ex) (total-num m hm zones h y ey) (lit< tt)
 
-  pub final-sum : Op (rd (rd x -ℤ rd y) -ℤ toZ w64 (getD m 0 0)) (total p zones -ℤ total m zones -ℤ pos (getD m 0 0)) 66560000000
-  final-sum = sub (net-sum .num) (num-u _ 1024000000 (hm .most 0 (omega arith)) (lit< tt)) (lit< tt)
+  pub final-sum-op : Op (rd (rd x -ℤ rd y) -ℤ toZ w64 (getD m 0 0)) (total p zones -ℤ total m zones -ℤ pos (getD m 0 0)) 66560000000
+  final-sum-op = sub (net-sum-op .num) (num-u _ 1024000000 (hm .most 0 (omega arith)) (lit< tt)) (lit< tt)
 
 -- a difference of sums
 minus-minus : (a b c d : ℤ) → (a +ℤ b) -ℤ (c +ℤ d) ≡ (a -ℤ c) +ℤ (b -ℤ d)

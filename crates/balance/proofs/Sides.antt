@@ -10,7 +10,7 @@ use Rattle.integers.specs.Sum.{sumTo, allTo}
 use Rattle.integers.proofs.Sums.{sum-same, all-same}
 use Rattle.records.specs.declared.Place.the-variants.{Proxy, Line}
 use Rattle.records.specs.Content.{Content}
-use Rattle.records.specs.Valid.{Valid}
+use Rattle.record_rows.specs.inner.Valid.{Valid}
 use Rattle.figures.specs.Balance.{imports, exports, totalLoad, zoneLoad, netLoad, finalLoad, zoneOutput, zoneGeneration, netGeneration, finalGeneration, grossLoad, noneBelowZero}
 use Rattle.figures.proofs.Bounds.{gross-output-is}
 use Rattle.balance.specs.declared.Side.{Side}

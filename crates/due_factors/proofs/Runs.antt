@@ -1,116 +1,118 @@
--- The list of what is due, run by run: lengths, and what stands at a place. Assumes nothing.
-use Prim.Native.Nat.{ℕ, zero, suc, _+_, _*_, _-_, _/_, _%_, _≤_, _<_}
-use mathlib.Core.Path.{_≡_, sym, _∙_}
-use mathlib.Core.List.{List, _++_}
-use native.Mathlib.Numerals.{add-one}
-use native.Mathlib.Nat.{mul-le-mul, div-eq-of-lt-le, mod-eq-sub-div-mul, mod-lt}
+-- The factors of one target and one subject, which are due one behind the other.
+use Prim.Native.Nat.{ℕ, zero, suc, _+_, _-_, _≤_, _<_}
+use mathlib.Core.Path.{_≡_, refl, _∙_}
+use mathlib.Core.Bool.{Bool, true, false, _&&_}
+use mathlib.Core.List.{List, [], _∷_}
 use native.Mathlib.Omega.{arith}
-use lib.ListN.{length, getD, length-append, List·getD-append}
+use lib.Dec.{eqb}
+use lib.ListN.{length, getD, drop, length-drop}
+use lib.Seq.{getD-drop}
+use native.Mathlib.Nat.{suc-ne-zero}
+use borrow.Author.Tests.{eqb-true, eq-eqb, ne-eqb}
+use Rattle.rows.proofs.NotMet.{both}
+use Rattle.due_factors.specs.declared.Counts.{Counts}
 use Rattle.due_factors.specs.declared.Due.{Due}
-use Rattle.due_factors.specs.Due.{key, run, each, flowgate, perPar, dueList, noDue, Few}
-use Rattle.due_factors.proofs.Tab.{below-or, getD-behind, length-tab, getD-tab}
+use Rattle.due_factors.specs.Due.{key, dueList, noDue, howMany}
+use Rattle.due_factors.specs.inner.Places.{Few, every, parsOn, alike, moreOfRun}
+use Rattle.due_factors.proofs.DueList.{whole, in-units, in-zones, in-points, in-pars}
+use Rattle.due_factors.proofs.Keys.{subjects, manyOn, placeAt, key-stands, DueThere, due-there}
 
-pub positive : (q p m : ℕ) → m < p * q → 0 < q
-positive zero p m h = absurd (omega arith)
-positive (suc q) p m h = omega arith
+-- of this one's target and subject
+record Alike (d e : Due) : Type 0 where
+  target : e .target ≡ d .target
+  subject : e .subject ≡ d .subject
 
-module _ (zones units points : ℕ) where
-  -- how many factors each target has but for those of PARs
-  abbrev pub every : ℕ
-  every = units + zones + points
+alike-is : (d : Due) (l : List Due) (r : ℕ) → r ≤ length l → ((m : ℕ) → m < r → Alike d (getD l m noDue)) → (r < length l → Alike d (getD l r noDue) → ⊥) → alike d l ≡ r
+unfolding alike
+alike-is d [] zero h f g = refl
+alike-is d [] (suc r) h f g = absurd (omega arith)
+alike-is d (e ∷ l) zero h f g = by-test (eqb (e .target) (d .target) && eqb (e .subject) (d .subject)) refl
+  where
+    by-test : (b : Bool) → (eqb (e .target) (d .target) && eqb (e .subject) (d .subject)) ≡ b → alike d (e ∷ l) ≡ 0
+    by-test true q = let a = both (eqb (e .target) (d .target)) _ q in absurd (g (omega arith) (record { target = eqb-true _ _ (a .0); subject = eqb-true _ _ (a .1) }))
+    by-test false q = rw q
+alike-is d (e ∷ l) (suc r) h f g =
+    let a = f 0 (omega arith) in
+    rw (eq-eqb _ _ (a .target), eq-eqb _ _ (a .subject), alike-is d l r (omega arith) (λ m p. f (suc m) (omega arith)) (λ p. g (omega arith)))
 
-  -- a target's factors
-  abbrev pub whole : ℕ → ℕ → List Due
-  whole target pars = each zones units points target ++ run target 4 pars
+-- behind the factor d, which is due behind k others, the rest of its target and subject
+pub record RunDue (n : Counts) (k : ℕ) (d : Due) : Type 0 where
+  pub below : k + moreOfRun n k < length (dueList n)
+  pub known : d .target ≤ n .pars
+  pub subject : d .subject ≤ 4
+  pub few : d .index + moreOfRun n k ≤ 256
+  pub is : (m : ℕ) → m ≤ moreOfRun n k → getD (dueList n) (k + m) noDue ≡ record { target = d .target; subject = d .subject; index = d .index + m }
 
-  pub length-each : (t : ℕ) → length (each zones units points t) ≡ every
-  unfolding each
-  length-each t =
-      rw (length-append (run t 1 units) (run t 2 zones ++ run t 3 points), length-append (run t 2 zones) (run t 3 points))
-      (omega (arith, length-tab (key t 1) units, length-tab (key t 2) zones, length-tab (key t 3) points))
+module _ (n : Counts) (k : ℕ) (below : k < length (dueList n)) where
+  abbrev d : Due
+  d = getD (dueList n) k noDue
 
-  pub length-whole : (t pars : ℕ) → length (whole t pars) ≡ every + pars
-  length-whole t pars = rw (length-append (each zones units points t) (run t 4 pars)) (omega (arith, length-each t, length-tab (key t 4) pars))
+  abbrev there : DueThere n k d
+  there = due-there n k below
 
-  pub length-per : (n : ℕ) → length (perPar zones units points n) ≡ n * every
-  unfolding perPar
-  length-per zero = omega arith
-  length-per (suc n) = rw (length-append (perPar zones units points n) (each zones units points (suc n))) (omega (arith, length-per n, length-each (suc n)))
+  abbrev many : ℕ
+  many = manyOn n (d .target) (d .subject)
 
-  pub length-due : (pars : ℕ) → length (dueList zones units points pars) ≡ every + pars + pars * every
-  unfolding dueList flowgate
-  length-due pars = rw (length-append (whole 0 pars) (perPar zones units points pars)) (omega (arith, length-whole 0 pars, length-per pars))
+  -- the ones behind it
+  next-is : (m : ℕ) → d .index + m ≤ many → (k + m < length (dueList n)) × (getD (dueList n) (k + m) noDue ≡ key (d .target) (d .subject) (d .index - 1 + m))
+  next-is m h =
+      let e : placeAt n (d .target) (d .subject) (d .index - 1 + m) ≡ k + m = omega (arith, there .place) in
+      rw e at (key-stands n (d .target) (d .subject) (d .index - 1 + m) (there .known) (there .low) (there .high) (omega (arith, there .first)))
 
-  pub per-most : (pars : ℕ) → Few zones units points pars → pars * every ≤ 2560
-  per-most pars f =
-      let g : every ≤ 320 = omega arith in
-      mul-le-mul (f .pars-most) g
+  -- but none behind the last
+  last-is : k + (many - d .index) + 1 < length (dueList n) → Alike d (getD (dueList n) (k + (many - d .index) + 1) noDue) → ⊥
+  last-is h a =
+      let w = due-there n (k + (many - d .index) + 1) h in
+      let p = rw (a .target, a .subject) at (w .place) in
+      let q = rw (a .target, a .subject) at (w .many) in
+      omega (arith, there .place, there .many, there .first, w .first)
 
-  -- the four runs of one target
-  module _ (t pars i : ℕ) where
-    pub in-each : i < every → getD (whole t pars) i noDue ≡ getD (each zones units points t) i noDue
-    in-each h = List·getD-append (each zones units points t) (run t 4 pars) noDue i (rw (length-each t) h)
+  pub more-is : moreOfRun n k ≡ many - d .index
+  unfolding moreOfRun
+  more-is =
+      let e : (m : ℕ) → k + 1 + m ≡ k + (m + 1) = λ m. omega arith in
+      let f : k + 1 + (many - d .index) ≡ k + (many - d .index) + 1 = omega arith in
+      alike-is d (drop (k + 1) (dueList n)) (many - d .index) (rw (length-drop (k + 1) (dueList n)) (omega (arith, next-is (many - d .index) (omega (arith, there .many)) .0)))
+      (λ m g.
+      let x = next-is (m + 1) (omega arith) .1 in
+      rw (getD-drop (k + 1) (dueList n) m noDue, e m, x) (record { target = refl; subject = refl }))
+      (λ g a. last-is (omega (arith, rw (length-drop (k + 1) (dueList n)) at g)) (rw (getD-drop (k + 1) (dueList n) (many - d .index) noDue, f) at a))
 
-    pub in-units : i < units → getD (whole t pars) i noDue ≡ key t 1 i
-    unfolding each
-    in-units h =
-        in-each (omega arith)
-        ∙ List·getD-append (run t 1 units) (run t 2 zones ++ run t 3 points) noDue i (rw (length-tab (key t 1) units) h)
-        ∙ getD-tab (key t 1) units i noDue h
+  -- by where it stands among its target's
+  module _ (t p i : ℕ) (e : getD (whole n t p) i noDue ≡ d) (p-is : parsOn (n .pars) t ≡ p) where
+    pub more-units : i < n .units → moreOfRun n k ≡ n .units - 1 - i
+    unfolding howMany
+    more-units h = more-is ∙ rw (← e, in-units n t p i h) (omega arith)
 
-    behind-units : units ≤ i → i < every → getD (whole t pars) i noDue ≡ getD (run t 2 zones ++ run t 3 points) (i - units) noDue
-    unfolding each
-    behind-units g h =
-        in-each h
-        ∙ getD-behind (run t 1 units) (run t 2 zones ++ run t 3 points) i noDue (rw (length-tab (key t 1) units) g)
-        ∙ rw (length-tab (key t 1) units)
+    pub more-zones : n .units ≤ i → i - n .units < n .zones → moreOfRun n k ≡ n .zones - 1 - (i - n .units)
+    unfolding howMany
+    more-zones g h = more-is ∙ rw (← e, in-zones n t p i g h) (omega arith)
 
-    pub in-zones : units ≤ i → i - units < zones → getD (whole t pars) i noDue ≡ key t 2 (i - units)
-    in-zones g h =
-        behind-units g (omega arith)
-        ∙ List·getD-append (run t 2 zones) (run t 3 points) noDue (i - units) (rw (length-tab (key t 2) zones) h)
-        ∙ getD-tab (key t 2) zones (i - units) noDue h
+    pub more-points : n .units ≤ i → n .zones ≤ i - n .units → i - n .units - n .zones < n .points → moreOfRun n k ≡ n .points - 1 - (i - n .units - n .zones)
+    unfolding howMany
+    more-points f g h = more-is ∙ rw (← e, in-points n t p i f g h) (omega arith)
 
-    pub in-points : units ≤ i → zones ≤ i - units → i - units - zones < points → getD (whole t pars) i noDue ≡ key t 3 (i - units - zones)
-    in-points g f h =
-        behind-units g (omega arith)
-        ∙ getD-behind (run t 2 zones) (run t 3 points) (i - units) noDue (rw (length-tab (key t 2) zones) f)
-        ∙ rw (length-tab (key t 2) zones) (getD-tab (key t 3) points (i - units - zones) noDue h)
+    pub more-pars : every n ≤ i → i - n .units - n .zones - n .points < p → moreOfRun n k ≡ p - 1 - (i - n .units - n .zones - n .points)
+    unfolding howMany
+    more-pars g h = more-is ∙ rw (← e, in-pars n t p i g h, p-is) (omega arith)
 
-    pub in-pars : every ≤ i → i - units - zones - points < pars → getD (whole t pars) i noDue ≡ key t 4 (i - units - zones - points)
-    in-pars g h =
-        let e : i - every ≡ i - units - zones - points = omega arith in
-        getD-behind (each zones units points t) (run t 4 pars) i noDue (rw (length-each t) g)
-        ∙ rw (length-each t, e) (getD-tab (key t 4) pars (i - units - zones - points) noDue h)
+  many-few : Few n → (j : ℕ) → 1 ≤ j → j ≤ 4 → manyOn n (d .target) j ≤ 256
+  unfolding howMany
+  many-few f = subjects (λ (j : ℕ). manyOn n (d .target) j ≤ 256) (omega (arith, f .units-most)) (omega (arith, f .zones-most)) (omega (arith, f .points-most)) (by-target (d .target))
+    where
+      by-target : (t : ℕ) → parsOn (n .pars) t ≤ 256
+      by-target zero = omega (arith, f .pars-most)
+      by-target (suc t) = rw (ne-eqb (suc t) 0 (suc-ne-zero t)) (omega arith)
 
-  -- behind the flowgate's own: the PARs as targets, one behind the other
-  per-at : (n m : ℕ) → m < n * every → getD (perPar zones units points n) m noDue ≡ getD (each zones units points (m / every + 1)) (m % every) noDue
-  unfolding perPar
-  per-at zero m h = absurd (omega arith)
-  per-at (suc n) m h =
-      let lp = length-per n in
-      below-or m (n * every)
-      (λ a. List·getD-append (perPar zones units points n) (each zones units points (suc n)) noDue m (rw lp a) ∙ per-at n m a)
-      (λ b.
-      let d : m / every ≡ n = div-eq-of-lt-le {k = n} every {m = m} b (omega arith) in
-      getD-behind (perPar zones units points n) (each zones units points (suc n)) m noDue (rw lp b)
-      ∙ rw (lp, mod-eq-sub-div-mul m every, d, add-one))
-
-  module _ (pars n : ℕ) where
-    pub some-each : every + pars ≤ n → n < length (dueList zones units points pars) → 0 < every
-    some-each g h = positive every pars (n - (every + pars)) (omega (arith, length-due pars))
-
-    pub due-first : n < every + pars → getD (whole 0 pars) n noDue ≡ getD (dueList zones units points pars) n noDue
-    unfolding dueList flowgate
-    due-first h = sym (List·getD-append (whole 0 pars) (perPar zones units points pars) noDue n (rw (length-whole 0 pars) h))
-
-    pub due-later : every + pars ≤ n → n < length (dueList zones units points pars) →
-        getD (whole ((n - (every + pars)) / every + 1) 0) ((n - (every + pars)) % every) noDue ≡ getD (dueList zones units points pars) n noDue
-    unfolding dueList flowgate
-    due-later g h =
-        let m = n - (every + pars) in
-        let k : m < pars * every = omega (arith, length-due pars) in
-        let z : 0 < every = positive every pars m k in
-        List·getD-append (each zones units points (m / every + 1)) (run (m / every + 1) 4 0) noDue (m % every) (rw (length-each (m / every + 1)) (mod-lt m {m = every} z))
-        ∙ sym (getD-behind (whole 0 pars) (perPar zones units points pars) n noDue (rw (length-whole 0 pars) g)
-        ∙ rw (length-whole 0 pars) (per-at pars m k))
+  pub run-due : Few n → RunDue n k d
+  run-due f =
+      let r = more-is in
+      record {
+        below = rw r (next-is (many - d .index) (omega (arith, there .many)) .0);
+        known = there .known;
+        subject = there .high;
+        few = omega (arith, r, there .many, many-few f (d .subject) (there .low) (there .high));
+        is = λ m h.
+            let x : d .index - 1 + m + 1 ≡ d .index + m = omega (arith, there .first) in
+            rw x at (next-is m (omega (arith, r, there .many)) .1);
+      }

@@ -1,63 +1,84 @@
-// The factors that are due (document 01, 'The interval sheet'): how many, which is the n-th, and where one stands among them.
+// The factors that are due (document 01, 'The interval sheet'): how many, which is behind k others, and where one stands among them.
 ghost use mathlib.Core.Path.{_≡_};
 ghost use mathlib.Core.List.{_++_};
 ghost use Prim.Native.Nat.{_+_, _≤_, _<_};
 ghost use lib.ListN.{length, getD};
-ghost use Rattle.due_factors.specs.Due.{each, run, dueList, noDue, offset, parsOn, Asked, Few, Stands, Follows, Run};
+ghost use Rattle.due_factors.specs.Due.{key, each, run, dueList, noDue, Asked};
+ghost use Rattle.due_factors.specs.inner.Places.{Few, every, parsOn, offset, standing, placeIn, moreOfRun};
+use records::PAR;
+use records::POINT;
+use records::UNIT;
+use records::ZONE;
 
-// target: 0 the flowgate, k the k-th PAR. subject: 1 unit, 2 zone, 3 point, 4 PAR. index: from 1.
+// How many zones, units, points and PARs a sheet has.
+pub struct Counts {
+    pub zones: usize,
+    pub units: usize,
+    pub points: usize,
+    pub pars: usize,
+}
+
+// target: 0 the flowgate, k the k-th PAR. index: from 1.
 pub struct Due {
     pub target: usize,
     pub subject: u8,
     pub index: usize,
 }
 
-// Where a factor stands: of a target's, behind `offset` others.
-struct Next {
+// A factor's target, and how many of that target's stand before it.
+struct Standing {
     target: usize,
-    offset: usize,
+    behind: usize,
 }
 
-pub fn due_count(zones: usize, units: usize, points: usize, pars: usize) -> usize
-    requires { ⌜ Few zones units points pars ⌝ }
-    ensures { λ r. ⌜ r ≡ length (dueList zones units points pars) ⌝ }
+// How many factors each target has but for those of PARs.
+fn every(n: Counts) -> usize
+    requires { ⌜ Few n ⌝ }
+    ensures { λ r. ⌜ (r ≡ every n) × (r ≤ 320) ⌝ }
 {
-    let every = units + zones + points;
-    every + pars + pars * every
+    n.units + n.zones + n.points
 }
 
-// The i-th of a target's factors, from 0: units, zones, points, PARs.
-fn due_of(target: usize, zones: usize, units: usize, points: usize, pars: usize, i: usize) -> Due
-    requires { ⌜ Few zones units points pars × (i < units + zones + points + pars) ⌝ }
-    ensures { λ r. ⌜ r ≡ getD (each zones units points target ++ run target 4 pars) i noDue ⌝ }
+pub fn due_count(n: Counts) -> usize
+    requires { ⌜ Few n ⌝ }
+    ensures { λ r. ⌜ r ≡ length (dueList n) ⌝ }
 {
-    if i < units {
+    let each = every(n);
+    each + n.pars + n.pars * each
+}
+
+// The i-th of a target's factors, from 0: units, zones, points, and as many PARs as have a factor on it.
+fn due_of(target: usize, n: Counts, pars: usize, i: usize) -> Due
+    requires { ⌜ Few n × (i < every n + pars) × (pars ≤ n .pars) ⌝ }
+    ensures { λ r. ⌜ r ≡ getD (each n target ++ run target 4 pars) i noDue ⌝ }
+{
+    if i < n.units {
         return Due {
             target,
-            subject: 1,
+            subject: UNIT,
             index: i + 1,
         };
     }
-    let j = i - units;
-    if j < zones {
+    let j = i - n.units;
+    if j < n.zones {
         return Due {
             target,
-            subject: 2,
+            subject: ZONE,
             index: j + 1,
         };
     }
-    let k = j - zones;
-    if k < points {
+    let k = j - n.zones;
+    if k < n.points {
         return Due {
             target,
-            subject: 3,
+            subject: POINT,
             index: k + 1,
         };
     }
-    let q = k - points;
+    let q = k - n.points;
     Due {
         target,
-        subject: 4,
+        subject: PAR,
         index: q + 1,
     }
 }
@@ -69,93 +90,78 @@ fn pars_on(target: usize, pars: usize) -> usize
     if target == 0 { pars } else { 0 }
 }
 
-// Where the factor stands that is due behind n others.
-fn due_spot(zones: usize, units: usize, points: usize, pars: usize, n: usize) -> Next
-    requires { ⌜ Few zones units points pars × (n < length (dueList zones units points pars)) ⌝ }
-    ensures { λ r. ⌜ Follows zones units points pars n r ⌝ }
+// Where the factor stands that is due behind k others.
+fn standing_of(n: Counts, k: usize) -> Standing
+    requires { ⌜ Few n × (k < length (dueList n)) ⌝ }
+    ensures { λ r. ⌜ r ≡ standing n k ⌝ }
 {
-    let every = units + zones + points;
-    if n < every + pars {
-        return Next {
+    let each = every(n);
+    if k < each + n.pars {
+        return Standing {
             target: 0,
-            offset: n,
+            behind: k,
         };
     }
-    let m = n - (every + pars);
-    Next {
-        target: m / every + 1,
-        offset: m % every,
+    let m = k - (each + n.pars);
+    Standing {
+        target: m / each + 1,
+        behind: m % each,
     }
 }
 
-// The factor that is due behind n others.
-pub fn due_at(zones: usize, units: usize, points: usize, pars: usize, n: usize) -> Due
-    requires { ⌜ Few zones units points pars × (n < length (dueList zones units points pars)) ⌝ }
-    ensures { λ r. ⌜ r ≡ getD (dueList zones units points pars) n noDue ⌝ }
+// The factor that is due behind k others.
+pub fn due_at(n: Counts, k: usize) -> Due
+    requires { ⌜ Few n × (k < length (dueList n)) ⌝ }
+    ensures { λ r. ⌜ r ≡ getD (dueList n) k noDue ⌝ }
 {
-    let next = due_spot(zones, units, points, pars, n);
-    due_of(
-        next.target,
-        zones,
-        units,
-        points,
-        pars_on(next.target, pars),
-        next.offset,
-    )
+    let at = standing_of(n, k);
+    due_of(at.target, n, pars_on(at.target, n.pars), at.behind)
 }
 
 // How many of its target and subject are due behind that one.
-pub fn due_run(zones: usize, units: usize, points: usize, pars: usize, n: usize) -> usize
-    requires { ⌜ Few zones units points pars × (n < length (dueList zones units points pars)) ⌝ }
-    ensures { λ r. ⌜ Run zones units points pars n r ⌝ }
+pub fn more_of_run(n: Counts, k: usize) -> usize
+    requires { ⌜ Few n × (k < length (dueList n)) ⌝ }
+    ensures { λ r. ⌜ r ≡ moreOfRun n k ⌝ }
 {
-    let next = due_spot(zones, units, points, pars, n);
-    let i = next.offset;
-    if i < units {
-        return units - 1 - i;
+    let at = standing_of(n, k);
+    let i = at.behind;
+    if i < n.units {
+        return n.units - 1 - i;
     }
-    let j = i - units;
-    if j < zones {
-        return zones - 1 - j;
+    let j = i - n.units;
+    if j < n.zones {
+        return n.zones - 1 - j;
     }
-    let k = j - zones;
-    if k < points {
-        return points - 1 - k;
+    let k = j - n.zones;
+    if k < n.points {
+        return n.points - 1 - k;
     }
-    let q = k - points;
-    pars_on(next.target, pars) - 1 - q
+    let q = k - n.points;
+    pars_on(at.target, n.pars) - 1 - q
 }
 
 // Where a subject's factors begin among a target's.
-fn offset_of(zones: usize, units: usize, points: usize, pars: usize, subject: u8) -> usize
-    requires { ⌜ Few zones units points pars ⌝ }
-    ensures { λ r. ⌜ r ≡ offset zones units points subject ⌝ }
+fn offset_of(n: Counts, subject: u8) -> usize
+    requires { ⌜ Few n ⌝ }
+    ensures { λ r. ⌜ r ≡ offset n subject ⌝ }
 {
     match subject {
         1 => 0,
-        2 => units,
-        3 => units + zones,
-        _ => units + zones + points,
+        2 => n.units,
+        3 => n.units + n.zones,
+        _ => every(n),
     }
 }
 
 // Where a factor stands among those that are due, from 0; its index, too, from 0.
-pub fn due_place(
-    zones: usize,
-    units: usize,
-    points: usize,
-    pars: usize,
-    target: usize,
-    subject: u8,
-    i: usize,
-) -> usize
-    requires { ⌜ Few zones units points pars × Asked zones units points pars target subject i ⌝ }
-    ensures { λ r. ⌜ Stands zones units points pars target subject i r ⌝ }
+pub fn place_of(n: Counts, target: usize, subject: u8, i: usize) -> usize
+    requires { ⌜ Few n × Asked (n .zones) (n .units) (n .points) (n .pars) target subject i ⌝ }
+    ensures { λ r. ⌜ r ≡ placeIn (dueList n) (key target subject i) ⌝ }
 {
-    let offset = offset_of(zones, units, points, pars, subject);
+    let offset = offset_of(n, subject);
     if target == 0 {
         return offset + i;
     }
-    let every = units + zones + points;
-    every + pars + (target - 1) * every + (offset + i)
+    let each = every(n);
+    each + n.pars + (target - 1) * each + (offset + i)
 }

@@ -13,8 +13,8 @@ use Rattle.names.specs.Names.{sameList}
 use Rattle.names.proofs.SameNames.{same-refl, same-true}
 use Rattle.entitlements.specs.Entitlements.{Entry, recordLength, mostRecords, mostValue, anyFault, row14, entriesFrom, entriesOf, lookUp, entitlement}
 use Rattle.entitlements.specs.declared.Entitlement.the-variants.{Found, Refused}
-use Rattle.entitlements.proofs.Records.{either}
-use Rattle.entitlements.proofs.Walk.{Pass, none, one, pass-from}
+use Rattle.entitlements.proofs.RecordFault.{either}
+use Rattle.entitlements.proofs.ByRecord.{Pass, none, one, pass-from}
 use Rattle.entitlements.proofs.Passed.{Holds, sound, first-differs, too-long}
 
 abbrev pub entry : List ℕ → ℤ → Entry
@@ -111,23 +111,23 @@ module _ (s name : List ℕ) where
   missing-not-zero h e = h (pos 0) (found (pos 0) .0 e .1)
 
   -- the name has one value
-  pub once : (v w : ℤ) → row14 s ≡ false → Holds (entriesOf s) (entry name v) → Holds (entriesOf s) (entry name w) → v ≡ w
-  once v w e m n =
+  pub one-value : (v w : ℤ) → row14 s ≡ false → Holds (entriesOf s) (entry name v) → Holds (entriesOf s) (entry name w) → v ≡ w
+  one-value v w e m n =
       let p = found v .1 (e, m) in
       let q = found w .1 (e, n) in
       cc
 
-  pub within : (v : ℤ) → entitlement s name ≡ Found v → natAbs v ≤ mostValue
-  within v e = let h = found v .0 e in sound (pass-from [] 0 s (h .0)) (h .1) .range
+  pub value-within : (v : ℤ) → entitlement s name ≡ Found v → natAbs v ≤ mostValue
+  value-within v e = let h = found v .0 e in sound (pass-from [] 0 s (h .0)) (h .1) .range
 
 -- an empty list passes row 14, and has no entry
-pub empty : (name : List ℕ) → entitlement [] name ≡ Refused 15
+pub empty-list-15 : (name : List ℕ) → entitlement [] name ≡ Refused 15
 unfolding entitlement anyFault entriesFrom lookUp
-empty name = refl
+empty-list-15 name = refl
 
 -- the first n bytes of a file are enough, where n is more than 2,500 records have
-pub long : (s name : List ℕ) (n : ℕ) → recordLength * mostRecords < n → entitlement (take n s) name ≡ entitlement s name
-long s name n h =
+pub first-bytes-enough : (s name : List ℕ) (n : ℕ) → recordLength * mostRecords < n → entitlement (take n s) name ≡ entitlement s name
+first-bytes-enough s name n h =
     below-or n (length s)
     (λ l.
     let e : length (take n s) ≡ n = length-take-le n s (omega arith) in

@@ -16,8 +16,8 @@ use Rattle.names.proofs.SameNames.{same-refl}
 use Rattle.rows.proofs.NotMet.{neither}
 use Rattle.entitlements.specs.Entitlements.{Entry, bodyLength, recordLength, mostRecords, mostValue, entryOf, recordFault, anyFault, row14, entriesOf}
 use Rattle.entitlements.specs.inner.Steps.{firstNames}
-use Rattle.entitlements.proofs.Records.{Passes, either, passes, no-fault}
-use Rattle.entitlements.proofs.Walk.{Pass, none, one, pass-from, fault-on, fault-none, fault-end, first-next}
+use Rattle.entitlements.proofs.RecordFault.{Passes, either, passes, no-fault}
+use Rattle.entitlements.proofs.ByRecord.{Pass, none, one, pass-from, fault-on, fault-none, fault-end, first-next}
 
 -- one of the entries es is e
 abbrev pub Holds : List Entry → Entry → Type 0
@@ -79,15 +79,15 @@ held-at [] d i h = absurd (omega arith)
 held-at (e ∷ es) d zero h = List·Memᴰ·head refl
 held-at (e ∷ es) d (suc i) h = List·Memᴰ·tail (held-at es d i (omega arith))
 
-apart-from : {es : List (List ℕ)} {fs : List Entry} (d : Entry) (i j : ℕ) → Pass es fs → i < j → j < length fs → getD fs i d .name ≡ getD fs j d .name → ⊥
-apart-from d i j none h g e = omega arith
-apart-from d i zero (one k p) h g e = omega arith
-apart-from d zero (suc j) (one {fs = fs} {e = f} k p) h g e =
+differ-from : {es : List (List ℕ)} {fs : List Entry} (d : Entry) (i j : ℕ) → Pass es fs → i < j → j < length fs → getD fs i d .name ≡ getD fs j d .name → ⊥
+differ-from d i j none h g e = omega arith
+differ-from d i zero (one k p) h g e = omega arith
+differ-from d zero (suc j) (one {fs = fs} {e = f} k p) h g e =
     true≢false (sym (same-refl (f .name)) ∙ ap (sameList (f .name)) e ∙ first-differs p (held-at fs d j (omega arith)))
-apart-from d (suc i) (suc j) (one k p) h g e = apart-from d i j p (omega arith) (omega arith) e
+differ-from d (suc i) (suc j) (one k p) h g e = differ-from d i j p (omega arith) (omega arith) e
 
-pub apart : (s : List ℕ) (d : Entry) (i j : ℕ) → row14 s ≡ false → i < j → j < length (entriesOf s) → getD (entriesOf s) i d .name ≡ getD (entriesOf s) j d .name → ⊥
-apart s d i j h = apart-from d i j (pass-from [] 0 s h)
+pub names-differ : (s : List ℕ) (d : Entry) (i j : ℕ) → row14 s ≡ false → i < j → j < length (entriesOf s) → getD (entriesOf s) i d .name ≡ getD (entriesOf s) j d .name → ⊥
+names-differ s d i j h = differ-from d i j (pass-from [] 0 s h)
 
 -- more bytes than 2,500 records have meet row 14
 long-from : (es : List (List ℕ)) (skip : ℕ) (l : List ℕ) → length es ≤ mostRecords → recordLength * mostRecords + skip < length l + recordLength * length es → anyFault es skip l ≡ true

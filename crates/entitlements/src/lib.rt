@@ -2,7 +2,7 @@
 ghost use mathlib.Core.Path.{_≡_};
 ghost use mathlib.Core.Bool.{false, _||_};
 ghost use Prim.Native.Nat.{_+_, _*_, _≤_, _<_};
-ghost use lib.ListN.{length, drop, getD};
+ghost use lib.ListN.{length};
 ghost use Rattle.rows.specs.Rows.{beyond};
 ghost use Rattle.names.specs.Names.{badName};
 ghost use Rattle.name_index.specs.inner.Index.{Indexed};
@@ -74,7 +74,7 @@ fn record_fault(list: &[u8], at: usize, n: usize, mask: usize, table: &mut [u16]
         base: 0,
         mask: mask,
     };
-    if name_index::seen_before(list, run, table) {
+    if name_index::seen_before(list, from, run, table) {
         return true;
     }
     (list[at] != KIND) | entry_fault(&list[from..])

@@ -1,12 +1,13 @@
 -- Equal fields have equal bytes, and the other way.
-use Prim.Native.Nat.{ℕ, suc, _+_, _*_, _-_, _/_, _<_, _≤_}
+use Prim.Native.Nat.{ℕ, _+_, _*_, _-_, _/_, _<_, _≤_}
 use mathlib.Core.Path.{_≡_, sym, ap, ap₂, _∙_}
 use native.Mathlib.Nat.{add-assoc, div-eq-of-lt-le}
 use mathlib.Core.List.{List}
 use native.Mathlib.Omega.{arith}
 use lib.ListN.{getD}
 use Rattle.integers.proofs.Cases.{below-or}
-use Rattle.fields.specs.Fields.{byteAt, be16, be32, be64}
+use Rattle.fields.specs.Fields.{byteAt, be16, be32}
+use Rattle.fields.specs.inner.Word.{be64}
 
 -- a list of bytes
 abbrev pub Bytes : List ℕ → Type 0

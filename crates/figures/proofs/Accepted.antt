@@ -7,11 +7,12 @@ use mathlib.Core.List.{List, [], _∷_}
 use lib.Dec.{lit≤}
 use lib.IntN.{natAbs}
 use lib.ListN.{length, getD}
-use Rattle.due_factors.specs.Due.{tab, each, flowgate, perPar, dueList}
+use Rattle.fields.specs.Lists.{tab}
+use Rattle.due_factors.specs.Due.{each, flowgate, perPar, dueList, due}
 use Rattle.records.specs.declared.Place.the-variants.{Proxy, Line}
 use Rattle.records.specs.declared.Factor.{Factor}
 use Rattle.records.specs.Content.{Content, head, noZone, noUnit, noPoint, noPar, bears, factorFor}
-use Rattle.records.specs.Valid.{HeadFits, ZoneFits, UnitFits, LineFits, PointFits, ParFits, Valid}
+use Rattle.record_rows.specs.inner.Valid.{HeadFits, ZoneFits, UnitFits, LineFits, PointFits, ParFits, Valid}
 use Rattle.figures.specs.Balance.{balanceRow}
 use Rattle.figures.specs.Flow.{marketFlow, flowRow}
 use Rattle.figures.proofs.Examples.{printed, refused, sheetS}
@@ -49,7 +50,7 @@ proxy-fits zones n e = let q : _≡_ {A = ℕ} 0 1 = cc in omega arith
 -- how many factors are due
 unfoldable pub dueCount : Content → ℕ
 unfolding tab each flowgate perPar dueList
-dueCount c = length (dueList (length (c .zones)) (length (c .units)) (length (c .points)) (length (c .pars)))
+dueCount c = length (due c)
 
 -- what passes rows 1 to 13, from a test of each record
 pub record Tested (c : Content) : Type 0 where

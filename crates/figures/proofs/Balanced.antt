@@ -4,7 +4,7 @@ use native.Mathlib.Omega.{arith}
 use mathlib.Core.Path.{_≡_, refl}
 use mathlib.Core.Bool.{Bool, true, false, not, cond, _||_}
 use borrow.Author.Tests.{not-false}
-use lib.Dec.{eqb, lit<}
+use lib.Dec.{eqb}
 use lib.IntN.{ℤ, pos, negsuc, natAbs, _-ℤ_}
 use lib.ListN.{length}
 use lib.Signed.{_≤ℤ_, _<ℤ_, leZ, ltZ}
@@ -12,6 +12,7 @@ use Rattle.integers.proofs.Linear.{zarith}
 use Rattle.integers.proofs.Tactic.{zi, zo}
 use Rattle.integers.proofs.Machine.{lt-false, le-true, le-false}
 use Rattle.integers.proofs.Sums.{sum-least, all-at}
+use Rattle.rows.proofs.NotMet.{neither, row-pass}
 use Rattle.records.specs.declared.Place.{Place}
 use Rattle.records.specs.declared.Place.the-variants.{Proxy}
 use Rattle.records.specs.Content.{Content, point}
@@ -27,24 +28,16 @@ pub record NoneMet (c : Content) : Type 0 where
   pub row-20 : eqb (natAbs (netGeneration c)) 0 ≡ false
   pub row-21 : ltZ (finalGeneration c) (pos 0) ≡ false
 
-pub not-met : (t : Bool) (n m : ℕ) → 0 < n → cond t n m ≡ 0 → (t ≡ false) × (m ≡ 0)
-not-met true n m h e = let z : ⊥ = omega arith in absurd z
-not-met false n m h e = (refl, e)
-
 none-met : (c : Content) → balanceRow c ≡ 0 → NoneMet c
 unfolding balanceRow
 none-met c e =
-    let a = not-met (ltZ (pos 2000000) (grossLoad c) || ltZ (pos 2000000) (grossOutput c)) 16 _ (lit< tt) e in
-    let b = not-met (not (noneBelowZero c (zoneLoad c))) 17 _ (lit< tt) (a .1) in
-    let d = not-met (leZ (finalLoad c) (pos 0)) 18 _ (lit< tt) (b .1) in
-    let f = not-met (not (noneBelowZero c (zoneGeneration c))) 19 _ (lit< tt) (d .1) in
-    let g = not-met (eqb (natAbs (netGeneration c)) 0) 20 _ (lit< tt) (f .1) in
-    let h = not-met (ltZ (finalGeneration c) (pos 0)) 21 _ (lit< tt) (g .1) in
+    let a = row-pass 15 (ltZ (pos 2000000) (grossLoad c) || ltZ (pos 2000000) (grossOutput c)) _ e in
+    let b = row-pass 16 (not (noneBelowZero c (zoneLoad c))) _ (a .1) in
+    let d = row-pass 17 (leZ (finalLoad c) (pos 0)) _ (b .1) in
+    let f = row-pass 18 (not (noneBelowZero c (zoneGeneration c))) _ (d .1) in
+    let g = row-pass 19 (eqb (natAbs (netGeneration c)) 0) _ (f .1) in
+    let h = row-pass 20 (ltZ (finalGeneration c) (pos 0)) _ (g .1) in
     record { row-16 = a .0; row-17 = b .0; row-18 = d .0; row-19 = f .0; row-20 = g .0; row-21 = h .0 }
-
-pub neither : (a b : Bool) → a || b ≡ false → (a ≡ false) × (b ≡ false)
-neither true b e = (e, (cc))
-neither false b e = (refl, e)
 
 -- a net figure and what is taken off it at the proxies
 more-left : (n x : ℤ) → pos 0 ≤ℤ x → pos 0 <ℤ (n -ℤ x) → pos 0 <ℤ n

@@ -18,9 +18,10 @@ use Rattle.integers.proofs.Tactic.{zi, zo}
 use Rattle.records.specs.declared.Place.the-variants.{Line}
 use Rattle.records.specs.Codes.{common, noncommon, unitSubject, zoneSubject}
 use Rattle.records.specs.Content.{Content, unit, par}
-use Rattle.records.specs.Valid.{Valid}
+use Rattle.record_rows.specs.inner.Valid.{Valid}
 use Rattle.figures.specs.Balance.{imports, totalLoad, zoneLoad, netLoad, output, outputIn, zoneOutput, exports, zoneGeneration, netGeneration, finalGeneration, grossOutput, grossLoad, balanceRow}
 use Rattle.figures.specs.Flow.{factor, parFactor, outputTerm, weightedOutput, loadTerm, weightedLoad, firstDividend, loadShare, firstRemainder, grossFlow, secondDividend, generationToLoad, secondRemainder, parallel, shadow, control, carriedTerm, carriedSum, carried, redirect, nyisoMonitors, nonCommonRedirect, marketFlow}
+use Rattle.figures.specs.inner.Most.{mostPower, mostWeighted, mostShare, mostGenerationToLoad, mostSchedule, mostRedirect}
 use Rattle.figures.proofs.Numbers.{natural-least, less-left, size-most, size-rise, cond-within, times-within, sum-within, sum-rise, sum-term, sum-weighted, remainder-within, quotient-share}
 use Rattle.figures.proofs.Balanced.{imports-least, exports-least, gross-load-most, gross-output-most, zone-load-least, net-load-above, net-generation-above, final-generation-least, final-generation-most}
 use Rattle.figures.proofs.Factors.{unit-factor-within, zone-factor-within, par-factor-within}
@@ -31,7 +32,7 @@ weighted : (x f : ℤ) → natAbs f ≤ 10000 → natAbs (x *ℤ f) ≤ 10000 * 
 weighted x f h = omega (arith, abs-mul x f, mul-le-mul-left (natAbs x) h)
 
 -- the market flow's five parts
-parts-small : (a b d f g : ℤ) → natAbs a ≤ 400000000000 → natAbs b ≤ 640000000000 → natAbs d ≤ 640000000000 → natAbs f ≤ 8640000000000 → natAbs g ≤ 8640000000000 →
+parts-small : (a b d f g : ℤ) → natAbs a ≤ mostGenerationToLoad → natAbs b ≤ mostSchedule → natAbs d ≤ mostSchedule → natAbs f ≤ mostRedirect → natAbs g ≤ mostRedirect →
     natAbs (a +ℤ b +ℤ d -ℤ f -ℤ g) ≤ 18960000000000
 parts-small a b d f g = simp zi (simp zo (omega zarith))
 
@@ -70,21 +71,21 @@ module _ (c : Content) (v : Valid c) where
 
 module _ {c : Content} (v : Valid c) (e : balanceRow c ≡ 0) where
   -- steps 1 and 2
-  pub net-load-small : natAbs (netLoad c) ≤ 2000000
-  net-load-small = size-most (netLoad c) 2000000 (lt-le (net-load-above c e)) (≤-trans (net-load-gross c) (gross-load-most c e))
+  pub net-load-small : natAbs (netLoad c) ≤ mostPower
+  net-load-small = size-most (netLoad c) mostPower (lt-le (net-load-above c e)) (≤-trans (net-load-gross c) (gross-load-most c e))
 
-  pub gross-output-small : natAbs (grossOutput c) ≤ 2000000
-  gross-output-small = size-most (grossOutput c) 2000000 (gross-output-least c) (gross-output-most c e)
+  pub gross-output-small : natAbs (grossOutput c) ≤ mostPower
+  gross-output-small = size-most (grossOutput c) mostPower (gross-output-least c) (gross-output-most c e)
 
-  pub net-generation-small : natAbs (netGeneration c) ≤ 2000000
-  net-generation-small = size-most (netGeneration c) 2000000 (lt-le (net-generation-above c e)) (≤-trans (net-generation-gross c v) (gross-output-most c e))
+  pub net-generation-small : natAbs (netGeneration c) ≤ mostPower
+  net-generation-small = size-most (netGeneration c) mostPower (lt-le (net-generation-above c e)) (≤-trans (net-generation-gross c v) (gross-output-most c e))
 
-  pub final-generation-small : natAbs (finalGeneration c) ≤ 2000000
+  pub final-generation-small : natAbs (finalGeneration c) ≤ mostPower
   final-generation-small = le-trans (size-rise (finalGeneration c) (netGeneration c) (final-generation-least c e) (final-generation-most c e)) net-generation-small
 
   -- step 3, for a target of the sheet
   module _ {target : ℕ} (k : target ≤ length (c .pars)) where
-    pub weighted-output-small : natAbs (weightedOutput c target) ≤ 20000000000
+    pub weighted-output-small : natAbs (weightedOutput c target) ≤ mostWeighted
     unfolding weightedOutput outputTerm grossOutput
     weighted-output-small =
         omega (
@@ -100,21 +101,21 @@ module _ {c : Content} (v : Valid c) (e : balanceRow c ≡ 0) where
         sum-weighted (loadTerm c target) (zoneLoad c) 10000 (length (c .zones))
         (λ z l. weighted (zoneLoad c z) (factor c target zoneSubject z) (zone-factor-within v k z l)) (zone-load-least c e)
 
-    pub weighted-load-small : natAbs (weightedLoad c target) ≤ 20000000000
+    pub weighted-load-small : natAbs (weightedLoad c target) ≤ mostWeighted
     weighted-load-small = omega (arith, weighted-load-share, net-load-small)
 
-    pub load-share-small : natAbs (loadShare c target) ≤ 200000000000
+    pub load-share-small : natAbs (loadShare c target) ≤ mostShare
     unfolding loadShare firstDividend
     load-share-small =
-        quotient-share (firstDividend c target) (netLoad c) 200000000000 (net-load-above c e)
+        quotient-share (firstDividend c target) (netLoad c) mostShare (net-load-above c e)
         (let h = times-within (pos 10 *ℤ grossOutput c) (weightedLoad c target) (times-within (pos 10) (grossOutput c) (le-refl 10) gross-output-small) weighted-load-share in
         omega arith)
 
-    pub first-remainder-small : natAbs (firstRemainder c target) ≤ 2000000
+    pub first-remainder-small : natAbs (firstRemainder c target) ≤ mostPower
     unfolding firstRemainder
     first-remainder-small = remainder-within (firstDividend c target) (netLoad c) (net-load-above c e) net-load-small
 
-    gross-flow-small : natAbs (grossFlow c target) ≤ 400000000000
+    gross-flow-small : natAbs (grossFlow c target) ≤ mostGenerationToLoad
     unfolding grossFlow
     gross-flow-small =
         omega (
@@ -124,14 +125,14 @@ module _ {c : Content} (v : Valid c) (e : balanceRow c ≡ 0) where
           load-share-small,
         )
 
-    pub generation-to-load-small : natAbs (generationToLoad c target) ≤ 400000000000
+    pub generation-to-load-small : natAbs (generationToLoad c target) ≤ mostGenerationToLoad
     unfolding generationToLoad secondDividend
     generation-to-load-small =
-        quotient-share (secondDividend c target) (netGeneration c) 400000000000 (net-generation-above c e)
+        quotient-share (secondDividend c target) (netGeneration c) mostGenerationToLoad (net-generation-above c e)
         (times-within (grossFlow c target) (finalGeneration c) gross-flow-small
         (size-rise (finalGeneration c) (netGeneration c) (final-generation-least c e) (final-generation-most c e)))
 
-    pub second-remainder-small : natAbs (secondRemainder c target) ≤ 2000000
+    pub second-remainder-small : natAbs (secondRemainder c target) ≤ mostPower
     unfolding secondRemainder
     second-remainder-small = remainder-within (secondDividend c target) (netGeneration c) (net-generation-above c e) net-generation-small
 
@@ -152,15 +153,15 @@ module _ {c : Content} (v : Valid c) (e : balanceRow c ≡ 0) where
   unfolding carried
   carried-small class = quotient-share (carriedSum c class) (pos 10000) 8320000000000 (record { lt = tt }) (carried-sum-small class)
 
-  pub redirect-small : (class : ℕ) → natAbs (redirect c class) ≤ 8640000000000
+  pub redirect-small : (class : ℕ) → natAbs (redirect c class) ≤ mostRedirect
   unfolding redirect
   redirect-small class = omega (arith, abs-sub (carried c class) (control c class), carried-small class, control-within v class)
 
-  pub non-common-redirect-small : natAbs (nonCommonRedirect c) ≤ 8640000000000
+  pub non-common-redirect-small : natAbs (nonCommonRedirect c) ≤ mostRedirect
   unfolding nonCommonRedirect
   non-common-redirect-small = by (nyisoMonitors c)
     where
-      by : (b : Bool) → natAbs (cond b (pos 0) (redirect c noncommon)) ≤ 8640000000000
+      by : (b : Bool) → natAbs (cond b (pos 0) (redirect c noncommon)) ≤ mostRedirect
       by true = omega arith
       by false = redirect-small noncommon
 

@@ -8,7 +8,7 @@ use lib.ListN.{length}
 use Rattle.due_factors.specs.Due.{Asked, howMany}
 use Rattle.records.specs.Codes.{unitSubject, zoneSubject, pointSubject}
 use Rattle.records.specs.Content.{Content}
-use Rattle.records.specs.Valid.{Valid}
+use Rattle.record_rows.specs.inner.Valid.{Valid}
 use Rattle.figures.specs.Flow.{factor, parFactor}
 
 module _ {c : Content} (v : Valid c) where

@@ -5,18 +5,19 @@ use native.Mathlib.Omega.{arith}
 use mathlib.Core.Path.{_≡_, refl, sym}
 use mathlib.Core.Bool.{Bool, true, false, cond}
 use borrow.Author.Tests.{ltb-false, eqb-true, eqb-false}
-use lib.Dec.{eqb, ltb, lit<}
+use lib.Dec.{eqb, ltb}
 use lib.IntN.{ℤ, pos, negsuc, negℤ, natAbs, _*ℤ_, negℤ-negℤ}
 use lib.Signed.{_≤ℤ_, _<ℤ_}
 use Rattle.integers.proofs.Parts.{lt-to}
 use Rattle.integers.proofs.Absolute.{abs-sub, abs-neg}
+use Rattle.rows.proofs.NotMet.{row-pass}
 use Rattle.records.specs.declared.Head.{Head}
 use Rattle.records.specs.Codes.{nyiso, pjm}
 use Rattle.records.specs.Content.{Content, head}
-use Rattle.records.specs.Valid.{Valid, HeadFits}
-use Rattle.figures.specs.Flow.{marketFlow, flowRow}
+use Rattle.record_rows.specs.inner.Valid.{Valid, HeadFits}
+use Rattle.figures.specs.Flow.{marketFlow, mostFlow, flowRow}
 use Rattle.figures.specs.Payment.{inWatts, difference, price, amountOf, amount, payment}
-use Rattle.figures.proofs.Balanced.{not-met}
+use Rattle.figures.specs.inner.Most.{mostDifference, mostAmount}
 use Rattle.figures.proofs.Numbers.{natural-least, times-within, quotient-share}
 
 pub price-above : (h : Head) (d : ℤ) → pos 0 <ℤ d → price h d ≡ pos (h .«monitoring_price»)
@@ -48,27 +49,27 @@ module _ {h : Head} (f : HeadFits h) where
   price-within (negsuc n) = f .nonmonitoring-price
 
   -- difference × price × seconds, and its rounded quotient
-  pub charge-within : (d : ℤ) → natAbs d ≤ 20000000000 → natAbs (d *ℤ price h d *ℤ pos (h .seconds)) ≤ 7200000000000000000
+  pub charge-within : (d : ℤ) → natAbs d ≤ mostDifference → natAbs (d *ℤ price h d *ℤ pos (h .seconds)) ≤ 7200000000000000000
   charge-within d l = times-within (d *ℤ price h d) (pos (h .seconds)) (times-within d (price h d) l (price-within d)) (f .seconds-most)
 
-  pub amount-of-within : (d : ℤ) → natAbs d ≤ 20000000000 → natAbs (amountOf h d) ≤ 2000000000000
+  pub amount-of-within : (d : ℤ) → natAbs d ≤ mostDifference → natAbs (amountOf h d) ≤ mostAmount
   unfolding amountOf
-  amount-of-within d l = quotient-share (d *ℤ price h d *ℤ pos (h .seconds)) (pos 3600000) 2000000000000 (record { lt = tt }) (charge-within d l)
+  amount-of-within d l = quotient-share (d *ℤ price h d *ℤ pos (h .seconds)) (pos 3600000) mostAmount (record { lt = tt }) (charge-within d l)
 
-pub flow-within : (flow : ℤ) → flowRow flow ≡ 0 → natAbs flow ≤ 10000000000
+pub flow-within : (flow : ℤ) → flowRow flow ≡ 0 → natAbs flow ≤ mostFlow
 unfolding flowRow
-flow-within flow e = omega (arith, ltb-false, not-met (ltb 10000000000 (natAbs flow)) 22 0 (lit< tt) e .0)
+flow-within flow e = omega (arith, ltb-false, row-pass 21 (ltb mostFlow (natAbs flow)) 0 e .0)
 
-pub in-watts-within : (entitlement : ℤ) → natAbs entitlement ≤ 100000 → natAbs (inWatts entitlement) ≤ 10000000000
+pub in-watts-within : (entitlement : ℤ) → natAbs entitlement ≤ 100000 → natAbs (inWatts entitlement) ≤ mostFlow
 unfolding inWatts
 in-watts-within entitlement h = times-within entitlement (pos 100000) h (le-refl 100000)
 
 module _ (c : Content) (entitlement : ℤ) (e : flowRow (marketFlow c) ≡ 0) (h : natAbs entitlement ≤ 100000) where
-  pub difference-within : natAbs (difference c entitlement) ≤ 20000000000
+  pub difference-within : natAbs (difference c entitlement) ≤ mostDifference
   unfolding difference
   difference-within = omega (arith, abs-sub (marketFlow c) (inWatts entitlement), flow-within (marketFlow c) e, in-watts-within entitlement h)
 
-  pub amount-within : Valid c → natAbs (amount c entitlement) ≤ 2000000000000
+  pub amount-within : Valid c → natAbs (amount c entitlement) ≤ mostAmount
   unfolding amount
   amount-within v = amount-of-within (v .head-fits) (difference c entitlement) difference-within
 

@@ -12,9 +12,10 @@ use Rattle.records.specs.declared.Place.{Place}
 use Rattle.records.specs.declared.Place.the-variants.{Line}
 use Rattle.records.specs.Codes.{common, noncommon, pointSubject}
 use Rattle.records.specs.Content.{Content, zone, unit, point, par}
-use Rattle.records.specs.Valid.{Valid}
+use Rattle.record_rows.specs.inner.Valid.{Valid}
 use Rattle.figures.specs.Balance.{samePlace, importAt, imports, totalLoad, zoneLoad, output}
 use Rattle.figures.specs.Flow.{factor, parFactor, netSchedule, scheduleTerm, scheduleFlow, parallel, shadow, controlTerm, control}
+use Rattle.figures.specs.inner.Most.{mostSchedule}
 use Rattle.figures.proofs.Numbers.{cond-within, times-within, sum-within}
 use Rattle.figures.proofs.Factors.{point-factor-within, par-factor-within}
 
@@ -49,15 +50,15 @@ module _ {c : Content} (v : Valid c) where
         (watts-within (netSchedule c i) (factor c target pointSubject i)
         (gap-within (point c i .import) (point c i .export) (v .point-fits i l .import) (v .point-fits i l .export)) (point-factor-within v k i l))
 
-    pub schedule-flow-within : (type : ℕ) → natAbs (scheduleFlow c type target) ≤ 640000000000
+    pub schedule-flow-within : (type : ℕ) → natAbs (scheduleFlow c type target) ≤ mostSchedule
     unfolding scheduleFlow
     schedule-flow-within type = sum-within (scheduleTerm c type target) 20000000000 (schedule-term-within type) (v .points-most)
 
-    pub parallel-within : natAbs (parallel c target) ≤ 640000000000
+    pub parallel-within : natAbs (parallel c target) ≤ mostSchedule
     unfolding parallel
     parallel-within = schedule-flow-within noncommon
 
-    pub shadow-within : natAbs (shadow c target) ≤ 640000000000
+    pub shadow-within : natAbs (shadow c target) ≤ mostSchedule
     unfolding shadow
     shadow-within = schedule-flow-within common
 

@@ -107,5 +107,8 @@ unfoldable pub marketFlow : Content → ℤ
 marketFlow c = generationToLoad c 0 +ℤ parallel c 0 +ℤ shadow c 0 -ℤ redirect c common -ℤ nonCommonRedirect c
 
 -- 22: the market flow is outside ±10,000,000,000 W
+abbrev pub mostFlow : ℕ
+mostFlow = 10000000000
+
 unfoldable pub flowRow : ℤ → ℕ
-flowRow market = row 22 (beyond 10000000000 market) 0
+flowRow market = row 22 (beyond mostFlow market) 0

@@ -1,3 +1,4 @@
 pub mod Balance
 pub mod Flow
 pub mod Payment
+pub mod inner

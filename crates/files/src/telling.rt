@@ -3,7 +3,7 @@ use writers::put;
 ghost use Prim.Native.Nat.{_+_, _≤_};
 ghost use lib.ListN.{length};
 ghost use Rattle.io.specs.Counts.{Counts};
-ghost use Rattle.writers.specs.Written.{Wrote};
+ghost use Rattle.writers.specs.inner.Wrote.{Wrote};
 ghost use Rattle.files.specs.inner.Telling.{told};
 
 // What failed, as the line begins.

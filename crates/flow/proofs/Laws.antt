@@ -16,7 +16,7 @@ use Rattle.due_factors.specs.Due.{Asked, howMany}
 use Rattle.layout.specs.declared.Layout.{Layout}
 use Rattle.records.specs.Codes.{common, noncommon, unitSubject, zoneSubject, pointSubject, parSubject}
 use Rattle.records.specs.Content.{Content, par, factorFor}
-use Rattle.records.specs.Valid.{Valid}
+use Rattle.record_rows.specs.inner.Valid.{Valid}
 use Rattle.sheet.specs.Sheet.{contentOf}
 use Rattle.sheet.proofs.Accepted.{valid, counts}
 use Rattle.figures.specs.Balance.{balanceRow, netLoad, grossOutput, netGeneration, finalGeneration}

@@ -5,6 +5,7 @@ ghost use lib.IntN.{pos, natAbs, _+ℤ_, _-ℤ_, _*ℤ_};
 ghost use lib.Signed.{_<ℤ_};
 ghost use Rattle.sheet.specs.Sheet.{contentOf};
 ghost use Rattle.figures.specs.Flow.{carriedTerm, carriedSum, redirect, nonCommonRedirect, flowRow};
+ghost use Rattle.figures.specs.inner.Most.{mostPower, mostWeighted, mostShare, mostGenerationToLoad, mostSchedule, mostRedirect};
 ghost use Rattle.flow.specs.inner.Flow.{Ready, Divided, gtlOf, parShare, flowOf};
 use records::COMMON;
 use records::NON_COMMON;
@@ -42,7 +43,7 @@ pub struct Flow {
 
 // Document 01's B, from its G and N.
 fn load_share(g: i64, n: i64, net_load: i64) -> quotient::Quotient
-    requires { ⌜ (natAbs g ≤ 2000000) × (natAbs n ≤ 20000000000) × (pos 0 <ℤ «net_load») ⌝ }
+    requires { ⌜ (natAbs g ≤ mostPower) × (natAbs n ≤ mostWeighted) × (pos 0 <ℤ «net_load») ⌝ }
     ensures { λ r. ⌜ Divided r (pos 10 *ℤ g *ℤ n) «net_load» ⌝ }
 {
     quotient::rounded_quotient(10 * g * n, net_load)
@@ -50,7 +51,7 @@ fn load_share(g: i64, n: i64, net_load: i64) -> quotient::Quotient
 
 // H × final generation by net generation; H is 10 × A − B.
 fn scaled_down(a: i64, b: i64, final_generation: i64, net_generation: i64) -> quotient::Quotient
-    requires { ⌜ (natAbs a ≤ 20000000000) × (natAbs b ≤ 200000000000) × (natAbs «final_generation» ≤ 2000000) × (pos 0 <ℤ «net_generation») ⌝ }
+    requires { ⌜ (natAbs a ≤ mostWeighted) × (natAbs b ≤ mostShare) × (natAbs «final_generation» ≤ mostPower) × (pos 0 <ℤ «net_generation») ⌝ }
     ensures { λ r. ⌜ Divided r ((pos 10 *ℤ a -ℤ b) *ℤ «final_generation») «net_generation» ⌝ }
 {
     quotient::rounded_quotient((10 * a - b) * final_generation, net_generation)
@@ -175,7 +176,7 @@ fn noncommon_redirect<'a>(
 
 // Step 6.
 fn market_flow(gtl: i64, parallel: i64, shadow: i64, common: i64, noncommon: i64) -> i64
-    requires { ⌜ (natAbs gtl ≤ 400000000000) × (natAbs parallel ≤ 640000000000) × (natAbs shadow ≤ 640000000000) × (natAbs common ≤ 8640000000000) × (natAbs noncommon ≤ 8640000000000) ⌝ }
+    requires { ⌜ (natAbs gtl ≤ mostGenerationToLoad) × (natAbs parallel ≤ mostSchedule) × (natAbs shadow ≤ mostSchedule) × (natAbs common ≤ mostRedirect) × (natAbs noncommon ≤ mostRedirect) ⌝ }
     ensures { λ r. ⌜ r ≡ gtl +ℤ parallel +ℤ shadow -ℤ common -ℤ noncommon ⌝ }
 {
     gtl + parallel + shadow - common - noncommon

@@ -1,19 +1,23 @@
--- The content at the places: its lists' lengths and records, and one record more. Assumes nothing.
+-- The content at the places: its lists' lengths and records, and one record more.
 use Prim.Native.Nat.{ℕ, _+_, _≤_}
-use mathlib.Core.Path.{_≡_, refl, sym, _∙_}
+use mathlib.Core.Path.{_≡_, refl, sym, ap, _∙_}
 use mathlib.Core.Bool.{Bool, true, false}
 use mathlib.Core.List.{List, [], _∷_, _++_, append-nil}
 use native.Mathlib.Numerals.{add-one}
 use native.Mathlib.Omega.{arith}
 use lib.Dec.{eqb}
-use lib.ListN.{drop}
+use lib.ListN.{length, drop}
 use borrow.Author.Tests.{eqb-true, eqb-false}
-use Rattle.due_factors.specs.Due.{tab}
-use Rattle.due_factors.proofs.Tab.{below-or, length-tab}
-use Rattle.records.specs.Bodies.{byKind, bodyIn, headOf, zoneOf, unitOf, pointOf, parOf, factorOf}
-use Rattle.records.specs.Content.{onlyIf, noContent, withRecord}
+use Rattle.fields.specs.Lists.{tab}
+use Rattle.fields.proofs.Lists.{length-tab}
+use Rattle.integers.proofs.Cases.{below-or}
+use Rattle.records.specs.Table.{bodyIn}
+use Rattle.records.specs.Bodies.{headOf, zoneOf, unitOf, pointOf, parOf, factorOf}
+use Rattle.records.specs.Content.{countOf, onlyIf, noContent, withRecord}
+use Rattle.due_factors.specs.Due.{countsOf}
 use Rattle.layout.specs.declared.Layout.{Layout}
-use Rattle.layout.specs.Layout.{count, counted, noRecords, startOf, bodyAt, contentAt, layoutOf}
+use Rattle.layout.specs.inner.Places.{count, countsIn, counted, noRecords, startOf, bodyAt, contentAt}
+use Rattle.layout.specs.Layout.{layoutOf}
 use Rattle.layout.proofs.Places.{count-same, count-other, first-agree}
 use Rattle.layout.proofs.Laid.{Laid, laid-at, below-same}
 
@@ -28,6 +32,19 @@ layout-at s l =
       length-tab (λ i. parOf (bodyAt s l 5 i)) (l .pars),
       length-tab (λ i. factorOf (bodyAt s l 6 i)) (l .factors),
     )
+
+-- so its counts are the layout's
+pub count-at : (s : List ℕ) (l : Layout) (kind : ℕ) → countOf (contentAt s l) kind ≡ count l kind
+unfolding layoutOf
+count-at s l kind = ap (λ (m : Layout). count m kind) (layout-at s l)
+
+pub counts-at : (s : List ℕ) (l : Layout) → countsOf (contentAt s l) ≡ countsIn l
+unfolding layoutOf
+counts-at s l = ap countsIn (layout-at s l)
+
+pub zones-at : (s : List ℕ) (l : Layout) → length (contentAt s l .zones) ≡ l .zones
+unfolding layoutOf
+zones-at s l = ap (λ (m : Layout). m .zones) (layout-at s l)
 
 pub none-at : (s : List ℕ) → contentAt s noRecords ≡ noContent
 unfolding contentAt tab
@@ -69,7 +86,7 @@ module _ (s : List ℕ) (l : Layout) (last at kind : ℕ) (v : Laid l last at) (
     list-next j h = list-by j h (eqb kind j) refl
 
   pub content-next : contentAt s (counted l kind) ≡ withRecord (contentAt s l) kind body
-  unfolding contentAt withRecord byKind
+  unfolding contentAt withRecord
   content-next =
       let heads = list-next headOf 1 (omega arith) in
       let zones = list-next zoneOf 2 (omega arith) in

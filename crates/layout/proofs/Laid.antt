@@ -1,11 +1,11 @@
--- Records that follow one another with no kind below the one before. Assumes nothing.
+-- Records that follow one another with no kind below the one before.
 use Prim.Native.Nat.{ℕ, _+_, _≤_, _<_}
 use mathlib.Core.Path.{_≡_, refl, sym, _∙_}
 use native.Mathlib.Omega.{arith}
-use Rattle.records.specs.Bodies.{byKind, bodyLength}
+use Rattle.records.specs.Table.{bodyLength}
 use Rattle.layout.specs.declared.Layout.{Layout}
-use Rattle.layout.specs.Layout.{count, counted, noRecords, firstOf, startOf, extent}
-use Rattle.layout.proofs.ByKind.{kinds}
+use Rattle.layout.specs.inner.Places.{count, counted, noRecords, firstOf, startOf, extent}
+use Rattle.records.proofs.ByKind.{kinds}
 use Rattle.layout.proofs.Places.{count-same, count-other, first-agree, first-flat}
 
 -- the records end at a place, and none is of a kind above `last`
@@ -14,7 +14,7 @@ pub record Laid (l : Layout) (last at : ℕ) : Type 0 where
   pub above : (kind : ℕ) → last < kind → kind ≤ 6 → count l kind ≡ 0
 
 pub laid-none : Laid noRecords 0 0
-unfolding firstOf byKind
+unfolding firstOf
 laid-none = record {
   here = refl;
   above = λ k g h. kinds (λ (k : ℕ). count noRecords k ≡ 0) refl refl refl refl refl refl k g h;

@@ -1,4 +1,3 @@
-pub mod ByKind
 pub mod Places
 pub mod Names
 pub mod Laid

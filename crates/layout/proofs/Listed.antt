@@ -4,20 +4,18 @@ use mathlib.Core.Path.{_≡_, refl}
 use mathlib.Core.List.{List}
 use native.Mathlib.Omega.{arith}
 use lib.ListN.{length, replicate, length-replicate}
-use Rattle.due_factors.proofs.Tab.{below-or}
-use Rattle.records.specs.Bodies.{byKind}
+use Rattle.integers.proofs.Cases.{below-or}
 use Rattle.name_index.specs.inner.Index.{Indexed, longer}
-use Rattle.name_index.proofs.Laws.{none-indexed, begun-indexed}
+use Rattle.name_index.proofs.Table.{none-indexed, begun-indexed}
 use Rattle.layout.specs.declared.Layout.{Layout}
-use Rattle.layout.specs.Layout.{count, counted, noRecords, size, firstOf}
-use Rattle.layout.specs.Listed.{named, mask, tableSize, runOf, Listed}
-use Rattle.layout.proofs.ByKind.{kinds}
+use Rattle.layout.specs.inner.Places.{count, counted, noRecords, firstOf}
+use Rattle.layout.specs.inner.Listed.{named, tableSize, runOf, Listed}
+use Rattle.records.proofs.ByKind.{kinds}
 use Rattle.layout.proofs.Places.{count-same, count-other, first-agree}
 use Rattle.layout.proofs.Laid.{Laid}
 
 module _ (l : Layout) where
   pub count-named : (kind : ℕ) → kind ≤ 5 → count l kind ≤ named l
-  unfolding byKind
   count-named zero h = omega arith
   count-named (suc k) h =
       kinds (λ (k : ℕ). k ≤ 5 → count l k ≤ named l)
@@ -33,7 +31,7 @@ module _ (l : Layout) where
 
 module _ (s : List ℕ) where
   pub listed-none : Listed s noRecords 0 (replicate tableSize 0)
-  unfolding firstOf byKind
+  unfolding firstOf
   listed-none = record {
     full = length-replicate {A = ℕ} tableSize 0;
     holds = λ h. none-indexed s (runOf noRecords 0) tableSize refl (omega arith);

@@ -1,26 +1,25 @@
--- Laws of the places at which records stand. Assumes nothing.
+-- Laws of the places at which records stand.
 use Prim.Native.Nat.{ℕ, zero, suc, _+_, _*_, _≤_, _<_}
 use mathlib.Core.Path.{_≡_, refl}
 use native.Mathlib.Numerals.{add-one}
 use native.Mathlib.Omega.{arith}
 use lib.Dec.{eqb}
 use borrow.Author.Tests.{ne-eqb}
-use Rattle.due_factors.proofs.Tab.{below-or}
-use Rattle.records.specs.Bodies.{byKind}
+use Rattle.integers.proofs.Cases.{below-or}
 use Rattle.layout.specs.declared.Layout.{Layout}
-use Rattle.layout.specs.Layout.{one, count, counted, size, firstOf, startOf, extent}
-use Rattle.layout.proofs.ByKind.{kinds}
+use Rattle.layout.specs.inner.Places.{one, count, counted, size, firstOf, startOf, extent}
+use Rattle.records.proofs.ByKind.{kinds}
 
 -- one more of a kind
 pub count-same : (l : Layout) (kind : ℕ) → 1 ≤ kind → kind ≤ 6 → count (counted l kind) kind ≡ count l kind + 1
-unfolding byKind counted
+unfolding counted
 count-same l k g h = kinds (λ (k : ℕ). count (counted l k) k ≡ count l k + 1) refl refl refl refl refl refl k g h
 
 one-not : (j k n : ℕ) → (j ≡ k → ⊥) → n + one (eqb j k) ≡ n
 one-not j k n h = rw (ne-eqb j k h) (omega arith)
 
 pub count-other : (l : Layout) (j kind : ℕ) → kind ≤ 6 → (j ≡ kind → ⊥) → count (counted l j) kind ≡ count l kind
-unfolding byKind counted
+unfolding counted
 count-other l j zero g h = refl
 count-other l j (suc k) g h =
     kinds (λ (k : ℕ). (j ≡ k → ⊥) → count (counted l j) k ≡ count l k)
@@ -49,19 +48,19 @@ first-flat l k (suc n) g h =
 
 module _ (l : Layout) where
   pub extent-is : extent l ≡ 28 * l .heads + 25 * l .zones + 22 * l .units + 27 * l .points + 26 * l .pars + 7 * l .factors
-  unfolding firstOf byKind
+  unfolding firstOf
   extent-is = omega arith
 
   -- each record ends before the last does
   pub within : (kind i : ℕ) → 1 ≤ kind → kind ≤ 6 → i < count l kind → startOf l kind i + size kind ≤ extent l
-  unfolding firstOf byKind
+  unfolding firstOf
   within k i g h a =
       kinds (λ (k : ℕ). i < count l k → startOf l k i + size k ≤ extent l)
       (λ a. omega arith) (λ a. omega arith) (λ a. omega arith) (λ a. omega arith) (λ a. omega arith) (λ a. omega arith)
       k g h a
 
   pub first-one : firstOf l 1 ≡ 0
-  unfolding firstOf byKind
+  unfolding firstOf
   first-one = refl
 
   -- a kind begins where the one below ends
@@ -70,6 +69,6 @@ module _ (l : Layout) where
   first-next k = rw add-one
 
   pub first-most : (kind : ℕ) → 1 ≤ kind → kind ≤ 6 → firstOf l (kind + 1) ≤ extent l
-  unfolding firstOf byKind
+  unfolding firstOf
   first-most k g h =
       kinds (λ (k : ℕ). firstOf l (k + 1) ≤ extent l) (omega arith) (omega arith) (omega arith) (omega arith) (omega arith) (omega arith) k g h

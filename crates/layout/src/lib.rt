@@ -2,15 +2,26 @@
 ghost use mathlib.Core.Path.{_≡_};
 ghost use Prim.Native.Nat.{_+_, _*_, _≤_, _<_, _^_};
 ghost use lib.ListN.{length, drop};
-ghost use Rattle.records.specs.Bodies.{bodyLength, bodyIn};
-ghost use Rattle.records.specs.Rows.{repeats};
-ghost use Rattle.layout.specs.Layout.{one, count, counted, size, firstOf, startOf, extent, bodyAt, contentAt, Allowed};
-ghost use Rattle.layout.specs.Listed.{named, runOf, Listed};
+ghost use Rattle.records.specs.Table.{lastKind, bodyLength, bodyIn};
+ghost use Rattle.record_rows.specs.Rows.{repeats};
+ghost use Rattle.layout.specs.inner.Places.{countsIn, one, count, counted, size, firstOf, startOf, extent, bodyAt, contentAt, Allowed};
+ghost use Rattle.layout.specs.inner.Listed.{named, mostNamed, runOf, Listed};
 ghost use Rattle.name_index.specs.inner.Index.{withNext};
+use due_factors::Counts;
 use name_index::Run;
+use records::bodies;
 
 // Of the index of names: its hashes are up to this.
 const MASK: usize = 511;
+
+const MOST_NAMED: usize = records::MOST_HEADS
+    + records::MOST_ZONES
+    + records::MOST_UNITS
+    + records::MOST_POINTS
+    + records::MOST_PARS;
+
+// Of the table of the index: a place for each hash, for each name that is allowed, and for one too many.
+pub const TABLE_SIZE: usize = MASK + 1 + MOST_NAMED + 1;
 
 pub struct Layout {
     pub heads: usize,
@@ -24,22 +35,32 @@ pub struct Layout {
 pub fn count_of(l: Layout, kind: u8) -> usize
     ensures { λ r. ⌜ r ≡ count l kind ⌝ }
 {
-    records::bodies::by_kind(
-        kind,
-        l.heads,
-        l.zones,
-        l.units,
-        l.points,
-        l.pars,
-        l.factors,
-        0,
-    )
+    match kind {
+        1 => l.heads,
+        2 => l.zones,
+        3 => l.units,
+        4 => l.points,
+        5 => l.pars,
+        6 => l.factors,
+        _ => 0,
+    }
+}
+
+pub fn counts_in(l: Layout) -> Counts
+    ensures { λ r. ⌜ r ≡ countsIn l ⌝ }
+{
+    Counts {
+        zones: l.zones,
+        units: l.units,
+        points: l.points,
+        pars: l.pars,
+    }
 }
 
 fn size_of(kind: u8) -> usize
     ensures { λ r. ⌜ (r ≡ size kind) × (r ≤ 28) ⌝ }
 {
-    records::bodies::body_length(kind) + 1
+    bodies::body_length(kind) + 1
 }
 
 fn one_if(met: bool) -> usize
@@ -75,7 +96,7 @@ pub fn counted(l: Layout, kind: u8) -> Layout
 
 // Where the records of a kind begin.
 fn first_of(l: Layout, kind: u8) -> usize
-    requires { ⌜ (extent l < 2 ^ 64) × (1 ≤ kind) × (kind ≤ 6) ⌝ }
+    requires { ⌜ (extent l < 2 ^ 64) × (1 ≤ kind) × (kind ≤ lastKind) ⌝ }
     ensures { λ r. ⌜ r ≡ firstOf l kind ⌝ }
 {
     let mut first = 0;
@@ -89,16 +110,16 @@ fn first_of(l: Layout, kind: u8) -> usize
 
 // The body of the i-th record of a kind, from 0: the part of the sheet that starts behind the record's kind byte.
 pub fn body_at(s: &[u8], l: Layout, kind: u8, i: usize) -> &[u8]
-    requires { ⌜ (extent l ≤ length (now s)) × (1 ≤ kind) × (kind ≤ 6) × (i < count l kind) ⌝ }
+    requires { ⌜ (extent l ≤ length (now s)) × (1 ≤ kind) × (kind ≤ lastKind) × (i < count l kind) ⌝ }
     ensures { λ r. ⌜ (now r ≡ bodyAt (now (s .entry)) l kind i) × (length (now r) ≡ bodyLength kind) ⌝ }
 {
     let from = first_of(l, kind) + size_of(kind) * i + 1;
-    &s[from..from + records::bodies::body_length(kind)]
+    &s[from..from + bodies::body_length(kind)]
 }
 
 fn named_of(l: Layout) -> usize
     requires { ⌜ Allowed l ⌝ }
-    ensures { λ r. ⌜ (r ≡ named l) × (r ≤ 329) ⌝ }
+    ensures { λ r. ⌜ (r ≡ named l) × (r ≤ mostNamed) ⌝ }
 {
     l.heads + l.zones + l.units + l.points + l.pars
 }
@@ -119,5 +140,5 @@ pub fn repeated(s: &[u8], l: Layout, kind: u8, at: usize, table: &mut [u16]) -> 
         base: base,
         mask: MASK,
     };
-    name_index::seen_before(s, run, table)
+    name_index::seen_before(s, at + 1, run, table)
 }

@@ -1,4 +1,1 @@
-pub mod Parts
 pub mod Printing
-pub mod Example
-pub mod Longest

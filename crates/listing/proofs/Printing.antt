@@ -8,10 +8,12 @@ use lib.ListN.{length}
 use Rattle.io.specs.Counts.{Counts}
 use Rattle.statement.specs.declared.Statement.{Statement}
 use Rattle.statement.specs.Statement.{refusedAs}
-use Rattle.writers.specs.Written.{Wrote}
+use Rattle.writers.specs.inner.Wrote.{Wrote}
 use Rattle.writers.proofs.Writing.{none, counted}
+use Rattle.printout.specs.Listing.{refusalLine}
 use Rattle.listing.specs.declared.Printed.{Printed}
-use Rattle.listing.specs.Listing.{listing, refusalLine, shown, checked, text, printed, buffer}
+use Rattle.printout.specs.Listing.{listing, shown}
+use Rattle.listing.specs.Buffer.{checked, text, printed, buffer}
 
 module _ (s : Statement) (out : List ℕ) where
   -- t and n are what printing returns, and `new` is the buffer that it leaves

@@ -1,3 +1,1 @@
-pub mod Listing
-pub mod Parts
-pub mod Ranges
+pub mod Buffer

@@ -61,12 +61,11 @@ fn add(table: &mut [u16], mask: usize, h: usize, count: usize)
     table[h] = (count + 1) as u16;
 }
 
-// Whether the name behind the run is one of the run; the table then holds it with them.
-pub fn seen_before(s: &[u8], run: Run, table: &mut [u16]) -> bool
-    requires { ⌜ (placeOf run (run .count) + 16 ≤ length (now s)) × (run .base + run .count < 65535) × (run .mask + 1 + (run .base + run .count) < length (now table)) × Indexed (now s) run (now table) ⌝ }
-    ensures { λ r. ⌜ (r ≡ seenBefore (namesAt (now (s .entry)) (run .first) (run .stride) (run .count)) (nameAt (now (s .entry)) (placeOf run (run .count)))) × (now (table .exit) ≡ withNext (now (s .entry)) run (now (table .entry))) ⌝ }
+// Whether the name at `at`, which stands behind the run, is one of the run; the table then holds it with them.
+pub fn seen_before(s: &[u8], at: usize, run: Run, table: &mut [u16]) -> bool
+    requires { ⌜ (at ≡ placeOf run (run .count)) × (at + 16 ≤ length (now s)) × (run .base + run .count < 65535) × (run .mask + 1 + (run .base + run .count) < length (now table)) × Indexed (now s) run (now table) ⌝ }
+    ensures { λ r. ⌜ (r ≡ seenBefore (namesAt (now (s .entry)) (run .first) (run .stride) (run .count)) (nameAt (now (s .entry)) at)) × (now (table .exit) ≡ withNext (now (s .entry)) run (now (table .entry))) ⌝ }
 {
-    let at = run.first + run.stride * run.count;
     let h = hash_at(s, at, run.mask);
     let seen = listed(s, at, run, h, table);
     add(table, run.mask, h, run.base + run.count);

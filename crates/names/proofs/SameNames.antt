@@ -8,7 +8,7 @@ use lib.ListN.{length, drop, getD, length-take, length-drop}
 use lib.Seq.{ext-getD, getD-take, getD-drop}
 use lib.Dec.{eqb}
 use borrow.Author.Tests.{eq-eqb, eqb-true, eqb-false}
-use Rattle.fields.specs.Fields.{be64}
+use Rattle.fields.specs.inner.Word.{be64}
 use Rattle.fields.proofs.Bytes.{Bytes, Agree, agree128, agrees128}
 use Rattle.names.specs.Names.{sameList, nameAt}
 use Rattle.names.specs.inner.Words.{hasWords}

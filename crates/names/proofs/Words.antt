@@ -11,7 +11,8 @@ use lib.Bits.{bitOr, or-block, and-le-r, or-lt, or-self, or-add-and, or-zero-l}
 use lib.Dec.{eqb, lit<}
 use lib.ListN.{length, take, drop, getD, length-drop}
 use lib.Seq.{take-suc, take-add, drop-drop, getD-drop}
-use Rattle.fields.specs.Fields.{byteAt, be64}
+use Rattle.fields.specs.Fields.{byteAt}
+use Rattle.fields.specs.inner.Word.{be64}
 use Rattle.integers.proofs.Cases.{equal-or}
 use Rattle.fields.proofs.Bytes.{Bytes}
 use Rattle.names.specs.Names.{zeros, filled, nameOk, nameAt}

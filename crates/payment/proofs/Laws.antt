@@ -8,7 +8,7 @@ use mir.Syntax.{w64}
 use mir.Val.{toZ}
 use Rattle.integers.proofs.Machine.{Op, rd, num, num-is, num-u, mul, sub}
 use Rattle.records.specs.declared.Head.{Head}
-use Rattle.records.specs.Valid.{HeadFits}
+use Rattle.record_rows.specs.inner.Valid.{HeadFits}
 use Rattle.figures.specs.Payment.{inWatts, price}
 use Rattle.figures.proofs.Payments.{price-within}
 use Rattle.payment.specs.inner.Payment.{Payable}

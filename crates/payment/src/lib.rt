@@ -2,8 +2,9 @@
 ghost use mathlib.Core.Path.{_≡_};
 ghost use Prim.Native.Nat.{_≤_};
 ghost use lib.IntN.{natAbs};
-ghost use Rattle.records.specs.Valid.{HeadFits};
+ghost use Rattle.record_rows.specs.inner.Valid.{HeadFits};
 ghost use Rattle.figures.specs.Payment.{price, amountOf, payment};
+ghost use Rattle.figures.specs.inner.Most.{mostDifference, mostAmount};
 ghost use Rattle.payment.specs.inner.Payment.{paymentOf, Payable};
 use records::Head;
 
@@ -30,7 +31,7 @@ fn price_of(h: Head, difference: i64) -> i64
 }
 
 fn amount_of(h: Head, difference: i64) -> i64
-    requires { ⌜ HeadFits h × (natAbs difference ≤ 20000000000) ⌝ }
+    requires { ⌜ HeadFits h × (natAbs difference ≤ mostDifference) ⌝ }
     ensures { λ r. ⌜ r ≡ amountOf h difference ⌝ }
 {
     let price = price_of(h, difference);
@@ -40,7 +41,7 @@ fn amount_of(h: Head, difference: i64) -> i64
 }
 
 fn paid_to(h: Head, amount: i64, rto: u8) -> i64
-    requires { ⌜ natAbs amount ≤ 2000000000000 ⌝ }
+    requires { ⌜ natAbs amount ≤ mostAmount ⌝ }
     ensures { λ r. ⌜ r ≡ payment h amount rto ⌝ }
 {
     if h.monitoring_rto == rto {

@@ -1,4 +1,4 @@
--- The bytes of a list one by one, as an array that is filled from them has them. Assumes nothing.
+-- The bytes of a list one by one, as an array that is filled from them has them.
 use Prim.Native.Nat.{ℕ, zero, suc, _+_, _≤_}
 use mathlib.Core.Path.{_≡_, refl}
 use mathlib.Core.List.{List, [], _∷_}

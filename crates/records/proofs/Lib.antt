@@ -1,3 +1,2 @@
 pub mod Front
-pub mod Beyond
-pub mod Passes
+pub mod ByKind

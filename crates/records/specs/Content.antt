@@ -1,10 +1,10 @@
--- What a sheet holds: its records by kind, in their order (document 01, 'The interval sheet'). Assumes nothing.
+-- What a sheet holds: its records by kind, in their order (document 01, 'The interval sheet').
 use Prim.Native.Nat.{ℕ}
 use mathlib.Core.Bool.{Bool, true, false, _&&_, cond}
 use mathlib.Core.List.{List, [], _∷_, _++_, map}
 use lib.Dec.{eqb}
 use lib.IntN.{ℤ, pos}
-use lib.ListN.{getD, replicate}
+use lib.ListN.{length, getD, replicate}
 use Rattle.records.specs.declared.Head.{Head}
 use Rattle.records.specs.declared.Zone.{Zone}
 use Rattle.records.specs.declared.Unit.{Unit}
@@ -12,7 +12,8 @@ use Rattle.records.specs.declared.Place.the-variants.{Proxy}
 use Rattle.records.specs.declared.Point.{Point}
 use Rattle.records.specs.declared.Par.{Par}
 use Rattle.records.specs.declared.Factor.{Factor}
-use Rattle.records.specs.Bodies.{byKind, headOf, zoneOf, unitOf, pointOf, parOf, factorOf}
+use Rattle.records.specs.Table.{byKind}
+use Rattle.records.specs.Bodies.{headOf, zoneOf, unitOf, pointOf, parOf, factorOf}
 
 -- an accepted sheet has one head
 pub record Content : Type 0 where
@@ -88,13 +89,18 @@ withRecord c kind b = record {
   factors = c .factors ++ onlyIf (eqb kind 6) (factorOf b);
 }
 
+-- how many records of a kind there are
+abbrev pub countOf : Content → ℕ → ℕ
+countOf c kind =
+    byKind kind 0 (length (c .heads) ∷ length (c .zones) ∷ length (c .units) ∷ length (c .points) ∷ length (c .pars) ∷ length (c .factors) ∷ [])
+
 -- the names of a kind's records, in their order
 unfoldable pub namesOf : Content → ℕ → List (List ℕ)
 namesOf c kind =
-    byKind kind
-    (map (λ (h : Head). h .name) (c .heads))
-    (map (λ (z : Zone). z .name) (c .zones))
-    (map (λ (u : Unit). u .name) (c .units))
-    (map (λ (p : Point). p .name) (c .points))
-    (map (λ (p : Par). p .name) (c .pars))
-    [] []
+    byKind kind []
+    (map (λ (h : Head). h .name) (c .heads)
+    ∷ map (λ (z : Zone). z .name) (c .zones)
+    ∷ map (λ (u : Unit). u .name) (c .units)
+    ∷ map (λ (p : Point). p .name) (c .points)
+    ∷ map (λ (p : Par). p .name) (c .pars)
+    ∷ [])

@@ -1,5 +1,4 @@
 pub mod Codes
-pub mod Content
-pub mod Valid
+pub mod Table
 pub mod Bodies
-pub mod Rows
+pub mod Content

@@ -3,7 +3,8 @@ ghost use mathlib.Core.Path.{_≡_};
 ghost use Prim.Native.Nat.{_≤_};
 ghost use lib.ListN.{length};
 ghost use Rattle.names.specs.Names.{nameAt};
-ghost use Rattle.records.specs.Bodies.{byKind, bodyLength, placeOf, headOf, zoneOf, unitOf, pointOf, parOf, factorOf};
+ghost use Rattle.records.specs.Table.{bodyLength, kindOf};
+ghost use Rattle.records.specs.Bodies.{placeOf, headOf, zoneOf, unitOf, pointOf, parOf, factorOf};
 use super::Factor;
 use super::Head;
 use super::Par;
@@ -12,33 +13,31 @@ use super::Point;
 use super::Unit;
 use super::Zone;
 
-pub fn by_kind(
-    kind: u8,
-    head: usize,
-    zone: usize,
-    unit: usize,
-    point: usize,
-    par: usize,
-    factor: usize,
-    none: usize,
-) -> usize
-    ensures { λ r. ⌜ r ≡ byKind kind head zone unit point par factor none ⌝ }
-{
-    match kind {
-        1 => head,
-        2 => zone,
-        3 => unit,
-        4 => point,
-        5 => par,
-        6 => factor,
-        _ => none,
-    }
-}
-
 pub fn body_length(kind: u8) -> usize
     ensures { λ r. ⌜ r ≡ bodyLength kind ⌝ }
 {
-    by_kind(kind, 27, 24, 21, 26, 25, 6, 0)
+    match kind {
+        1 => 27,
+        2 => 24,
+        3 => 21,
+        4 => 26,
+        5 => 25,
+        6 => super::FACTOR_BODY,
+        _ => 0,
+    }
+}
+
+pub fn most_of(kind: u8) -> usize
+    ensures { λ r. ⌜ r ≡ kindOf kind .most ⌝ }
+{
+    match kind {
+        1 => super::MOST_HEADS,
+        2 => super::MOST_ZONES,
+        3 => super::MOST_UNITS,
+        4 => super::MOST_POINTS,
+        5 => super::MOST_PARS,
+        _ => 0,
+    }
 }
 
 fn name_of(b: &[u8]) -> [u8; 16]
@@ -72,7 +71,7 @@ fn place_of(n: u8) -> Place
 }
 
 pub fn head_of(b: &[u8]) -> Head
-    requires { ⌜ 27 ≤ length (now b) ⌝ }
+    requires { ⌜ bodyLength 1 ≤ length (now b) ⌝ }
     ensures { λ r. ⌜ r ≡ headOf (now (b .entry)) ⌝ }
 {
     let name = name_of(b);
@@ -86,7 +85,7 @@ pub fn head_of(b: &[u8]) -> Head
 }
 
 pub fn zone_of(b: &[u8]) -> Zone
-    requires { ⌜ 24 ≤ length (now b) ⌝ }
+    requires { ⌜ bodyLength 2 ≤ length (now b) ⌝ }
     ensures { λ r. ⌜ r ≡ zoneOf (now (b .entry)) ⌝ }
 {
     let name = name_of(b);
@@ -98,7 +97,7 @@ pub fn zone_of(b: &[u8]) -> Zone
 }
 
 pub fn unit_of(b: &[u8]) -> Unit
-    requires { ⌜ 21 ≤ length (now b) ⌝ }
+    requires { ⌜ bodyLength 3 ≤ length (now b) ⌝ }
     ensures { λ r. ⌜ r ≡ unitOf (now (b .entry)) ⌝ }
 {
     let name = name_of(b);
@@ -110,7 +109,7 @@ pub fn unit_of(b: &[u8]) -> Unit
 }
 
 pub fn point_of(b: &[u8]) -> Point
-    requires { ⌜ 26 ≤ length (now b) ⌝ }
+    requires { ⌜ bodyLength 4 ≤ length (now b) ⌝ }
     ensures { λ r. ⌜ r ≡ pointOf (now (b .entry)) ⌝ }
 {
     let name = name_of(b);
@@ -125,7 +124,7 @@ pub fn point_of(b: &[u8]) -> Point
 }
 
 pub fn par_of(b: &[u8]) -> Par
-    requires { ⌜ 25 ≤ length (now b) ⌝ }
+    requires { ⌜ bodyLength 5 ≤ length (now b) ⌝ }
     ensures { λ r. ⌜ r ≡ parOf (now (b .entry)) ⌝ }
 {
     let name = name_of(b);
@@ -138,7 +137,7 @@ pub fn par_of(b: &[u8]) -> Par
 }
 
 pub fn factor_of(b: &[u8]) -> Factor
-    requires { ⌜ 6 ≤ length (now b) ⌝ }
+    requires { ⌜ bodyLength 6 ≤ length (now b) ⌝ }
     ensures { λ r. ⌜ r ≡ factorOf (now (b .entry)) ⌝ }
 {
     Factor {

@@ -3,7 +3,8 @@ use Prim.Native.Nat.{ℕ}
 use mathlib.Core.List.{List}
 use Rattle.settlement.specs.Settled.{settled}
 use Rattle.listing.specs.declared.Printed.{Printed}
-use Rattle.listing.specs.Listing.{printed, buffer, shown}
+use Rattle.printout.specs.Listing.{shown}
+use Rattle.listing.specs.Buffer.{printed, buffer}
 
 -- the statement after row 23, and the listing's length
 unfoldable pub reported : List ℕ → List ℕ → List ℕ → Printed

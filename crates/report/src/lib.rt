@@ -1,10 +1,9 @@
 // The whole way: a sheet and an entitlement list are settled, and the statement is printed. Refusals 1 to 23.
 ghost use mathlib.Core.Path.{_≡_};
-ghost use Rattle.io.specs.Counts.{Counts};
-ghost use Rattle.settlement.specs.Promise.{Promise};
-ghost use Rattle.report.specs.Report.{reported, left, output};
-ghost use Rattle.writers.specs.Written.{written};
 ghost use lib.ListN.{length};
+ghost use Rattle.io.specs.Counts.{Counts};
+ghost use Rattle.writers.specs.Written.{written};
+ghost use Rattle.report.specs.Report.{reported, left, output};
 use listing::Printed;
 
 // Room for whatever the program prints.
@@ -26,6 +25,6 @@ pub fn write_output(sheet: &[u8], list: &[u8], out: &mut [u8; OUTPUT_ROOM]) -> u
     ensures { λ _. ⌜ now (out .exit) ≡ written (output (now (sheet .entry)) (now (list .entry))) (now (out .entry)) ⌝ }
     ensures { λ r. ⌜ Counts r (now (out .exit)) ⌝ }
 {
-    let s = settlement::settle(sheet, list);
-    listing::show(s, out)
+    let statement = settlement::settle(sheet, list);
+    listing::show(statement, out)
 }

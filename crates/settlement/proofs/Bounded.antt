@@ -10,14 +10,15 @@ use lib.ListN.{length}
 use lib.Signed.{_≤ℤ_}
 use Rattle.records.specs.Codes.{nyiso, common}
 use Rattle.records.specs.Content.{Content, head}
-use Rattle.records.specs.Valid.{Valid}
+use Rattle.record_rows.specs.inner.Valid.{Valid}
 use Rattle.entitlements.specs.declared.Entitlement.the-variants as found
 use Rattle.entitlements.specs.Entitlements.{row14, entriesOf, lookUp, entitlement}
-use Rattle.entitlements.proofs.Answers.{within}
-use Rattle.entitlements.proofs.Walk.{look-other-length}
+use Rattle.entitlements.proofs.Answers.{value-within}
+use Rattle.entitlements.proofs.ByRecord.{look-other-length}
 use Rattle.figures.specs.Balance.{balanceRow}
-use Rattle.figures.specs.Flow.{marketFlow, flowRow}
+use Rattle.figures.specs.Flow.{marketFlow, mostFlow, flowRow}
 use Rattle.figures.specs.Payment.{inWatts, difference, amount}
+use Rattle.figures.specs.inner.Most.{mostPower, mostGenerationToLoad, mostSchedule, mostRedirect, mostAmount}
 use Rattle.figures.proofs.Ranges.{parallel-within, shadow-within}
 use Rattle.figures.proofs.Bounds.{first-remainder-small, generation-to-load-small, second-remainder-small, redirect-small, non-common-redirect-small}
 use Rattle.figures.proofs.Payments.{price-within, price-least, flow-within, in-watts-within, amount-within, payments-opposite, payment-within}
@@ -28,19 +29,19 @@ use Rattle.settlement.proofs.Promised.{holds-valid, NoRowMet, no-row-me
 -- a price is not negative, and PJM's payment is the negative of NYISO's
 pub record Bounded (s : Statement) : Type 0 where
   pub name : length (s .name) ≡ 16
-  pub gtl : natAbs (s .gtl) ≤ 400000000000
-  pub first-remainder : natAbs (s .«first_remainder») ≤ 2000000
-  pub second-remainder : natAbs (s .«second_remainder») ≤ 2000000
-  pub parallel : natAbs (s .parallel) ≤ 640000000000
-  pub shadow : natAbs (s .shadow) ≤ 640000000000
-  pub common : natAbs (s .common) ≤ 8640000000000
-  pub noncommon : natAbs (s .noncommon) ≤ 8640000000000
-  pub market : natAbs (s .market) ≤ 10000000000
-  pub entitlement : natAbs (s .entitlement) ≤ 10000000000
+  pub gtl : natAbs (s .gtl) ≤ mostGenerationToLoad
+  pub first-remainder : natAbs (s .«first_remainder») ≤ mostPower
+  pub second-remainder : natAbs (s .«second_remainder») ≤ mostPower
+  pub parallel : natAbs (s .parallel) ≤ mostSchedule
+  pub shadow : natAbs (s .shadow) ≤ mostSchedule
+  pub common : natAbs (s .common) ≤ mostRedirect
+  pub noncommon : natAbs (s .noncommon) ≤ mostRedirect
+  pub market : natAbs (s .market) ≤ mostFlow
+  pub entitlement : natAbs (s .entitlement) ≤ mostFlow
   pub price : natAbs (s .price) ≤ 400000
   pub price-least : pos 0 ≤ℤ s .price
-  pub amount : natAbs (s .amount) ≤ 2000000000000
-  pub nyiso : natAbs (s .nyiso) ≤ 2000000000000
+  pub amount : natAbs (s .amount) ≤ mostAmount
+  pub nyiso : natAbs (s .nyiso) ≤ mostAmount
   pub pjm : s .pjm ≡ negℤ (s .nyiso)
 
 -- every entry's name has 16 bytes, and so has one that is found
@@ -86,4 +87,4 @@ bounded sheet list z =
     let e = n .1 in
     let m = n .2 in
     rw (m .figures)
-    (figures-bounded c e (holds-valid sheet c (m .read)) (m .balanced) (m .inside) (within list (flowgate c) e (m .entitled)) (found-sized list (flowgate c) e (m .entitled)))
+    (figures-bounded c e (holds-valid sheet c (m .read)) (m .balanced) (m .inside) (value-within list (flowgate c) e (m .entitled)) (found-sized list (flowgate c) e (m .entitled)))

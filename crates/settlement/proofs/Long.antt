@@ -14,7 +14,7 @@ use Rattle.settlement.proofs.Read.{byOutcome, settled-is}
 
 list-part : (c : Content) (list : List ℕ) (m : ℕ) (o : Outcome) → 52500 < m → byOutcome c (take m list) o ≡ byOutcome c list o
 unfolding afterSheet
-list-part c list m (Accepted l) h = rw (lists.long list (flowgate c) m h)
+list-part c list m (Accepted l) h = rw (lists.first-bytes-enough list (flowgate c) m h)
 list-part c list m (Refused row place) h = refl
 
 -- the longest sheet and its next record decide, and so do 2,500 records of the list and one byte more

@@ -14,7 +14,7 @@ use Rattle.layout.specs.Layout.{layoutOf}
 use Rattle.records.specs.declared.Head.{Head}
 use Rattle.records.specs.Codes.{nyiso, pjm}
 use Rattle.records.specs.Content.{Content}
-use Rattle.records.specs.Valid.{Valid, HeadFits}
+use Rattle.record_rows.specs.inner.Valid.{Valid, HeadFits}
 use Rattle.sheet.specs.Sheet.{Reading, holds, fails, reading, readSheet, contentOf}
 use Rattle.sheet.proofs.Accepted.{valid}
 use Rattle.sheet.proofs.Refusal.{refused-some}

@@ -1,4 +1,4 @@
--- What an accepted sheet is: its content stands at the layout's places, and rows 1 to 13 leave of it what they should. Assumes nothing.
+-- What an accepted sheet is: its content stands at the layout's places, and rows 1 to 13 leave of it what they should.
 use Prim.Native.Nat.{ℕ, _+_, _-_, _≤_, _<_}
 use mathlib.Core.Path.{_≡_, refl, sym, _∙_}
 use mathlib.Core.Bool.{false, not}
@@ -11,21 +11,26 @@ use lib.ListN.{length, drop, getD, length-append}
 use lib.Seq.{length-take-le}
 use borrow.Author.Tests.{ltb-false, eqb-true, eqb-false, eq-eqb, not-false}
 use Rattle.fields.specs.Fields.{byteAt}
-use Rattle.due_factors.specs.Due.{noDue, key, Asked}
-use Rattle.due_factors.proofs.Tab.{below-or, getD-tab}
-use Rattle.due_factors.proofs.Stands.{due-found}
-use Rattle.records.specs.Bodies.{bodyIn, headOf, zoneOf, unitOf, pointOf, parOf, factorOf}
+use Rattle.integers.proofs.Cases.{below-or}
+use Rattle.fields.proofs.Lists.{getD-tab}
+use Rattle.rows.proofs.NotMet.{row-pass, neither}
+use Rattle.records.specs.Table.{bodyIn}
+use Rattle.records.specs.Bodies.{headOf, zoneOf, unitOf, pointOf, parOf, factorOf}
 use Rattle.records.specs.Content.{Content, onlyIf, withRecord, noHead, noZone, noUnit, noPoint, noPar, noFactor, head, zone, unit, point, par, factorFor}
-use Rattle.records.specs.Valid.{Valid}
-use Rattle.records.proofs.Passes.{row-pass, neither, FactorFits}
+use Rattle.due_factors.specs.Due.{noDue, key, Asked}
+use Rattle.due_factors.proofs.Keys.{placeAt, asked-stands}
+use Rattle.record_rows.specs.inner.Valid.{Valid}
+use Rattle.record_rows.proofs.Passes.{FactorFits}
+use Rattle.record_rows.specs.Rows.{firstRow, noZoneOrUnit, stillDue, endRow, lastRow}
 use Rattle.layout.specs.declared.Layout.{Layout}
-use Rattle.layout.specs.Layout.{extent, Allowed, bodyAt, contentAt, layoutOf}
+use Rattle.layout.specs.inner.Places.{countsIn, extent, Allowed, bodyAt, contentAt, dueOf}
+use Rattle.layout.specs.Layout.{layoutOf}
 use Rattle.sheet.specs.declared.Outcome.the-variants.{Accepted}
-use Rattle.sheet.specs.Sheet.{firstRow, endRow, noZoneOrUnit, stillDue, dueOf, readSheet, contentOf}
-use Rattle.sheet.specs.Passed.{Passed, none, more}
-use Rattle.sheet.proofs.Reach.{reach-laid, reach-placed, reach-allowed}
-use Rattle.sheet.proofs.Told.{kept}
-use Rattle.sheet.proofs.Each.{each-head, each-zone, each-unit, each-point, each-par, each-factor}
+use Rattle.sheet.specs.Sheet.{readSheet, contentOf}
+use Rattle.sheet.specs.inner.Passed.{Passed, none, more}
+use Rattle.sheet.proofs.Passing.{passed-laid, passed-placed, passed-allowed}
+use Rattle.sheet.proofs.Answers.{kept}
+use Rattle.sheet.proofs.RecordsFine.{passed-head, passed-zone, passed-unit, passed-point, passed-par, passed-factor}
 use Rattle.sheet.proofs.Factors.{factor-for}
 
 -- the head
@@ -61,13 +66,13 @@ module _ (s : List ℕ) (l : Layout) (e : readSheet s ≡ Accepted l) where
   counts = rw (← kept s l e .layout) (record { heads = refl; zones = refl; units = refl; points = refl; pars = refl; factors = refl })
 
   pub content-is : contentOf s ≡ contentAt s l
-  content-is = rw (kept s l e .layout) at (reach-placed s passed)
+  content-is = rw (kept s l e .layout) at (passed-placed s passed)
 
   pub extent-is : extent l ≡ length s
-  extent-is = rw (kept s l e .layout) at (reach-laid s passed .here)
+  extent-is = rw (kept s l e .layout) at (passed-laid s passed .here)
 
   pub allowed : Allowed l
-  allowed = rw (kept s l e .layout) at (reach-allowed s passed)
+  allowed = rw (kept s l e .layout) at (passed-allowed s passed)
 
   pub one-head : length (contentOf s .heads) ≡ 1
   one-head =
@@ -76,14 +81,18 @@ module _ (s : List ℕ) (l : Layout) (e : readSheet s ≡ Accepted l) where
       let a = allowed .heads in
       ⊎-elim (λ q. absurd (omega (arith, f .0))) (λ q. omega arith) (head-there (f .1) passed)
 
-  ended : (noZoneOrUnit l ≡ false) × (stillDue l ≡ false)
+  last-passes : endRow (countsIn (layoutOf (contentOf s))) (layoutOf (contentOf s) .factors) ≡ 0
+  unfolding layoutOf lastRow
+  last-passes = kept s l e .accepts .end
+
+  ended : (noZoneOrUnit (countsIn l) ≡ false) × (stillDue (countsIn l) (l .factors) ≡ false)
   unfolding endRow
   ended =
-      let a = row-pass 11 (noZoneOrUnit l) _ (rw (kept s l e .layout) at (kept s l e .accepts .end)) in
-      (a .0, row-pass 12 (stillDue l) 0 (a .1) .0)
+      let a = row-pass 11 (noZoneOrUnit (countsIn l)) _ (rw (kept s l e .layout) at last-passes) in
+      (a .0, row-pass 12 (stillDue (countsIn l) (l .factors)) 0 (a .1) .0)
 
   factor-fine : (i : ℕ) → i < length (contentOf s .factors) → FactorFits (dueOf l) i (getD (contentOf s .factors) i noFactor)
-  factor-fine i h = rw (kept s l e .layout, length-take-le i (contentOf s .factors) (omega arith)) at (each-factor passed i h)
+  factor-fine i h = rw (kept s l e .layout, length-take-le i (contentOf s .factors) (omega arith)) at (passed-factor passed i h)
 
   pub all-due : l .factors ≡ length (dueOf l)
   all-due =
@@ -97,12 +106,12 @@ module _ (s : List ℕ) (l : Layout) (e : readSheet s ≡ Accepted l) where
   -- where a factor that is due stands
   pub factor-is : (target subject i n : ℕ) → n < length (dueOf l) → getD (dueOf l) n noDue ≡ key target subject i →
       factorFor (contentOf s .factors) target subject (i + 1) ≡ getD (contentOf s .factors) n noFactor .factor
-  factor-is = factor-for (l .zones) (l .units) (l .points) (l .pars) (contentOf s .factors) due-number factor-fine
+  factor-is = factor-for (countsIn l) (contentOf s .factors) due-number factor-fine
 
   factor-within : (target subject i : ℕ) → Asked (l .zones) (l .units) (l .points) (l .pars) target subject i → natAbs (factorFor (contentOf s .factors) target subject (i + 1)) ≤ 10000
   factor-within t j i a =
-      let d = due-found (l .zones) (l .units) (l .points) (l .pars) t j i a in
-      rw (factor-is t j i (d .at) (d .stands .below) (d .stands .is)) (factor-fine (d .at) (omega (arith, due-number, d .stands .below)) .factor)
+      let d = asked-stands (countsIn l) t j i a in
+      rw (factor-is t j i (placeAt (countsIn l) t j i) (d .0) (d .1)) (factor-fine (placeAt (countsIn l) t j i) (omega (arith, due-number, d .0)) .factor)
 
   -- what rows 1 to 13 leave
   pub valid : Valid (contentOf s)
@@ -122,11 +131,11 @@ module _ (s : List ℕ) (l : Layout) (e : readSheet s ≡ Accepted l) where
         points-most = omega arith;
         pars-most = omega arith;
         factors = rw (← n .zones, ← n .units, ← n .points, ← n .pars) due-number;
-        head-fits = each-head passed 0 (omega (arith, one-head)) .fits;
-        zone-fits = λ i h. each-zone passed i h .fits;
-        unit-fits = λ i h. each-unit passed i h .fits;
-        point-fits = λ i h. each-point passed i h .fits;
-        par-fits = λ i h. each-par passed i h .fits;
+        head-fits = passed-head passed 0 (omega (arith, one-head)) .fits;
+        zone-fits = λ i h. passed-zone passed i h .fits;
+        unit-fits = λ i h. passed-unit passed i h .fits;
+        point-fits = λ i h. passed-point passed i h .fits;
+        par-fits = λ i h. passed-par passed i h .fits;
         factor-fits = λ t j i q. factor-within t j i (rw (← n .zones, ← n .units, ← n .points, ← n .pars) at q);
       }
 

@@ -1,4 +1,4 @@
--- A sheet's first 27,776 bytes decide: no accepted sheet is longer than 27,748 bytes, and in a longer one a record is refused that begins at or before that place. Assumes nothing.
+-- A sheet's first 27,776 bytes decide: no accepted sheet is longer than 27,748 bytes, and in a longer one a record is refused that begins at or before that place.
 use Prim.Native.Nat.{ℕ, zero, suc, _+_, _-_, _≤_, _<_}
 use mathlib.Core.Path.{_≡_, refl, sym, ap, _∙_}
 use mathlib.Core.List.{List, [], _∷_}
@@ -8,21 +8,23 @@ use lib.ListN.{length, take, drop, length-drop}
 use lib.Seq.{take-all, take-nil, take-take, getD-take, length-take-le}
 use borrow.Author.Tests.{lt-ltb, le-ltb}
 use Rattle.fields.specs.Fields.{byteAt}
-use Rattle.due_factors.proofs.Tab.{below-or}
-use Rattle.due_factors.proofs.Runs.{length-due, per-most}
-use Rattle.records.specs.Bodies.{bodyLength, bodyIn}
+use Rattle.integers.proofs.Cases.{below-or}
+use Rattle.records.specs.Table.{bodyLength, bodyIn}
 use Rattle.records.specs.Content.{Content, noContent}
+use Rattle.records.proofs.ByKind.{length-most}
+use Rattle.due_factors.proofs.DueList.{length-due, per-most}
+use Rattle.record_rows.specs.Rows.{recordRow, frontRow, firstRow}
 use Rattle.layout.specs.declared.Layout.{Layout}
-use Rattle.layout.specs.Layout.{extent, Allowed, layoutOf}
-use Rattle.layout.proofs.ByKind.{length-most}
+use Rattle.layout.specs.inner.Places.{countsIn, extent, Allowed, dueOf}
+use Rattle.layout.specs.Layout.{layoutOf}
 use Rattle.layout.proofs.Places.{extent-is}
 use Rattle.sheet.specs.declared.Outcome.the-variants.{Accepted}
-use Rattle.sheet.specs.Sheet.{Reading, holds, fails, recordRow, frontRow, firstRow, recordsFrom, reading, readSheet, contentOf, dueOf}
-use Rattle.sheet.specs.Passed.{Passed, none, more, rowAt, Accepts, Refuses}
-use Rattle.sheet.proofs.Reach.{reach-laid, reach-allowed}
-use Rattle.sheet.proofs.Each.{each-factor}
-use Rattle.sheet.proofs.Walk.{from-next, from-refused}
-use Rattle.sheet.proofs.Told.{reading-told, kept}
+use Rattle.sheet.specs.Sheet.{Reading, holds, fails, recordsFrom, reading, readSheet, contentOf}
+use Rattle.sheet.specs.inner.Passed.{Passed, none, more, rowAt, Accepts, Refuses}
+use Rattle.sheet.proofs.Passing.{passed-laid, passed-allowed}
+use Rattle.sheet.proofs.RecordsFine.{passed-factor}
+use Rattle.sheet.proofs.RecordByRecord.{from-next, from-refused}
+use Rattle.sheet.proofs.Answers.{reading-answers, kept}
 
 -- no more factors than are due
 few-factors : {s : List ℕ} {at last : ℕ} {c : Content} → Passed s at last c → layoutOf c .factors ≤ length (dueOf (layoutOf c))
@@ -30,17 +32,17 @@ unfolding layoutOf
 few-factors {c = c} p =
     below-or 0 (length (c .factors))
     (λ a.
-    let f = each-factor p (length (c .factors) - 1) (omega arith) .some in
+    let f = passed-factor p (length (c .factors) - 1) (omega arith) .some in
     omega (arith, length-take-le (length (c .factors) - 1) (c .factors) (omega arith)))
     (λ a. omega arith)
 
 at-most : (l : Layout) → Allowed l → l .factors ≤ length (dueOf l) → extent l ≤ 27748
 at-most l a f =
-    omega (arith, extent-is l, length-due (l .zones) (l .units) (l .points) (l .pars), per-most (l .zones) (l .units) (l .points) (l .pars) (a .few))
+    omega (arith, extent-is l, length-due (countsIn l), per-most (countsIn l) (a .few))
 
 -- no record begins, and no sheet ends, behind the longest sheet
-pub reach-short : {s : List ℕ} {at last : ℕ} {c : Content} → Passed s at last c → at ≤ 27748
-reach-short {s} {c = c} p = omega (arith, at-most (layoutOf c) (reach-allowed s p) (few-factors p), reach-laid s p .here)
+pub passed-short : {s : List ℕ} {at last : ℕ} {c : Content} → Passed s at last c → at ≤ 27748
+passed-short {s} {c = c} p = omega (arith, at-most (layoutOf c) (passed-allowed s p) (few-factors p), passed-laid s p .here)
 
 -- records that pass lead the reading on
 passed-on : {s : List ℕ} {at last : ℕ} {c : Content} → Passed s at last c → recordsFrom at 0 last c (drop at s) ≡ recordsFrom 0 0 0 noContent s
@@ -92,13 +94,13 @@ module _ (s : List ℕ) (n : ℕ) (enough : 27776 ≤ n) (longer : n ≤ length 
   moved : {at last : ℕ} {c : Content} → Passed s at last c → Passed front at last c
   moved none = none
   moved (more {at} {last} {c} p h e) =
-      let b = reach-short p in
+      let b = passed-short p in
       rw (same-byte at b, same-body at b) at (more (moved p) (omega (arith, front-length)) (same-row c last at b ∙ e))
 
   refused : (number p : ℕ) → Refuses s number p → recordsFrom 0 0 0 noContent front ≡ fails number p
   unfolding rowAt
   refused number p r =
-      let b = reach-short (r .passed) in
+      let b = passed-short (r .passed) in
       let e : recordRow (r .content) (r .last) (byteAt s p) (drop (p + 1) s) ≡ number = rw (lt-ltb p (length s) (omega arith)) at (r .row) in
       let m = moved (r .passed) in
       let q = same-row (r .content) (r .last) p b ∙ e in
@@ -107,9 +109,9 @@ module _ (s : List ℕ) (n : ℕ) (enough : 27776 ≤ n) (longer : n ≤ length 
   by-reading : (r : Reading) → reading s ≡ r → firstRow s ≡ 0 → reading front ≡ r
   unfolding reading
   by-reading (holds c) e f =
-      let a : Accepts s c = rw e at (reading-told s f) in
-      absurd (omega (arith, reach-short (a .passed)))
-  by-reading (fails number p) e f = rw (first-take n s (omega arith), f) (refused number p (rw e at (reading-told s f)))
+      let a : Accepts s c = rw e at (reading-answers s f) in
+      absurd (omega (arith, passed-short (a .passed)))
+  by-reading (fails number p) e f = rw (first-take n s (omega arith), f) (refused number p (rw e at (reading-answers s f)))
 
   same-reading : (number : ℕ) → firstRow s ≡ number → reading front ≡ reading s
   unfolding reading
@@ -131,4 +133,4 @@ unfolding contentOf
 long-content s n h = rw (long-reading s n h)
 
 pub accepted-short : (s : List ℕ) (l : Layout) → readSheet s ≡ Accepted l → length s ≤ 27748
-accepted-short s l e = reach-short (kept s l e .accepts .passed)
+accepted-short s l e = passed-short (kept s l e .accepts .passed)

@@ -1,4 +1,4 @@
--- Where a refusal points: the records before that place pass their rows, and the record there, or the sheet's end, meets the refusal's row. Assumes nothing.
+-- Where a refusal points: the records before that place pass their rows, and the record there, or the sheet's end, meets the refusal's row.
 use Prim.Native.Nat.{ℕ, _+_, _-_, _≤_, _<_}
 use mathlib.Core.Path.{_≡_, refl, sym}
 use mathlib.Core.Bool.{Bool, true, false}
@@ -8,24 +8,24 @@ use native.Mathlib.Omega.{arith}
 use lib.ListN.{length, drop, length-drop}
 use borrow.Author.Tests.{lt-ltb, le-ltb}
 use Rattle.fields.specs.Fields.{byteAt}
-use Rattle.due_factors.proofs.Tab.{below-or}
-use Rattle.records.specs.Bodies.{bodyLength}
+use Rattle.integers.proofs.Cases.{below-or}
+use Rattle.rows.specs.Rows.{row}
+use Rattle.records.specs.Table.{bodyLength}
 use Rattle.records.specs.Content.{Content}
-use Rattle.records.specs.Rows.{row}
-use Rattle.layout.specs.declared.Layout.{Layout}
-use Rattle.layout.specs.Layout.{layoutOf}
+use Rattle.due_factors.specs.Due.{countsOf}
+use Rattle.record_rows.specs.Rows.{unknownKind, frontRow, noZoneOrUnit, stillDue, recordRow, lastRow, endRow, firstRow}
 use Rattle.sheet.specs.declared.Outcome.the-variants.{Refused}
-use Rattle.sheet.specs.Sheet.{Reading, holds, fails, unknownKind, frontRow, noZoneOrUnit, stillDue, recordRow, endRow, firstRow, reading, outcome, readSheet}
-use Rattle.sheet.specs.Passed.{rowAt, Refuses}
-use Rattle.sheet.proofs.Reach.{reach-within}
-use Rattle.sheet.proofs.Told.{first-number, refused-first, reading-told}
+use Rattle.sheet.specs.Sheet.{Reading, holds, fails, reading, outcome, readSheet}
+use Rattle.sheet.specs.inner.Passed.{rowAt, Refuses}
+use Rattle.sheet.proofs.Passing.{passed-within}
+use Rattle.sheet.proofs.Answers.{first-number, refused-first, reading-answers}
 
 by-reading : (s : List ℕ) (number at : ℕ) (r : Reading) → reading s ≡ r → outcome r ≡ Refused number at → firstRow s ≡ 0 → Refuses s number at
 by-reading s number at (holds c) e o f = let z : _≡_ {A = ℕ} 0 1 = cc in absurd (omega arith)
 by-reading s number at (fails n p) e o f =
     let n-is : n ≡ number = cc in
     let p-is : p ≡ at = cc in
-    rw (n-is, p-is) at (rw e at (reading-told s f))
+    rw (n-is, p-is) at (rw e at (reading-answers s f))
 
 -- row 1, or a row that a record or the sheet's end meets
 refusal : (s : List ℕ) (number at : ℕ) → readSheet s ≡ Refused number at → (number ≡ 1) ⊎ Refuses s number at
@@ -59,9 +59,9 @@ short-row c last k r h = rw (lt-ltb _ _ h) (pick (unknownKind k))
     pick false = omega arith
 
 -- at the sheet's end rows 12 and 13 alone
-end-late : (l : Layout) (number : ℕ) → endRow l ≡ number → (number ≡ 0 → ⊥) → 12 ≤ number
-unfolding endRow
-end-late l number = pick (noZoneOrUnit l) (stillDue l)
+end-late : (c : Content) (number : ℕ) → lastRow c ≡ number → (number ≡ 0 → ⊥) → 12 ≤ number
+unfolding lastRow endRow
+end-late c number = pick (noZoneOrUnit (countsOf c)) (stillDue (countsOf c) (length (c .factors)))
   where
     pick : (a b : Bool) → row 12 a (row 13 b 0) ≡ number → (number ≡ 0 → ⊥) → 12 ≤ number
     pick true b e n = omega arith
@@ -83,5 +83,5 @@ points s number at r =
           (λ b. omega (arith, length-drop (at + 1) s));
     })
     (λ a.
-    let l = end-late (layoutOf (r .content)) number (rw (le-ltb at (length s) a) at (r .row)) (r .some) in
-    record { within = reach-within s (r .passed); some = λ h. absurd (omega arith); whole = λ g h. absurd (omega arith) })
+    let l = end-late (r .content) number (rw (le-ltb at (length s) a) at (r .row)) (r .some) in
+    record { within = passed-within s (r .passed); some = λ h. absurd (omega arith); whole = λ g h. absurd (omega arith) })

@@ -1,3 +1,2 @@
 pub mod Sheet
-pub mod Passed
-pub mod Steps
+pub mod inner

@@ -3,22 +3,28 @@ ghost use mathlib.Core.Path.{_≡_};
 ghost use mathlib.Core.List.{List};
 ghost use Prim.Native.Nat.{ℕ, _+_, _*_, _≤_, _<_, _^_};
 ghost use lib.ListN.{length, drop};
+ghost use mathlib.Core.Bool.{true};
 ghost use Rattle.fields.specs.Fields.{byteAt};
+ghost use Rattle.rows.specs.Rows.{row, cutShort};
+ghost use Rattle.records.specs.Table.{bodyLength, bodyIn};
+ghost use Rattle.records.specs.Bodies.{factorOf};
+ghost use Rattle.records.specs.Content.{Content, head, zone, unit, point, par, factorFor};
 ghost use Rattle.due_factors.specs.Due.{Asked};
-ghost use mathlib.Core.Bool.{true, false};
-ghost use Rattle.records.specs.Bodies.{bodyLength, bodyIn};
-ghost use Rattle.records.specs.Rows.{row};
-ghost use Rattle.records.specs.Content.{head, zone, unit, point, par, factorFor};
-ghost use Rattle.layout.specs.Layout.{counted, Allowed, contentAt};
-ghost use Rattle.layout.specs.Listed.{Listed};
+ghost use Rattle.record_rows.specs.Rows.{factorRow, bodyRow, recordRow};
+ghost use Rattle.layout.specs.inner.Places.{size, counted, dueOf, Allowed, contentAt};
+ghost use Rattle.layout.specs.inner.Listed.{Listed};
 ghost use Rattle.sheet.specs.declared.Outcome.the-variants.{Accepted};
-ghost use Rattle.sheet.specs.Sheet.{cutShort, oneTooMany, frontRow, bodyRow, recordRow, endRow, readSheet, contentOf};
-ghost use Rattle.sheet.specs.Passed.{Passed};
-ghost use Rattle.sheet.specs.Steps.{keyOf, Good};
+ghost use Rattle.sheet.specs.Sheet.{readSheet, contentOf};
+ghost use Rattle.sheet.specs.inner.Passed.{Passed};
+ghost use Rattle.sheet.specs.inner.GoodFactors.{keyOf, Good};
 use layout::Layout;
+use layout::counts_in;
+use records::FACTOR_BODY;
+use records::FACTOR_KIND;
 use records::bodies;
-use records::rows;
-use records::rows::row;
+
+// How many bytes a factor's record has: one of kind, then the body.
+const FACTOR_SIZE: usize = FACTOR_BODY + 1;
 
 // The sheet's layout, or the refusal's number and the place where the offending record begins.
 pub enum Outcome {
@@ -32,54 +38,31 @@ struct Reached {
     at: usize,
 }
 
-fn one_too_many(l: Layout, kind: u8) -> bool
-    ensures { λ r. ⌜ r ≡ oneTooMany l kind ⌝ }
-{
-    match kind {
-        2 => 32 <= l.zones,
-        3 => 256 <= l.units,
-        4 => 32 <= l.points,
-        5 => 8 <= l.pars,
-        _ => false,
-    }
-}
-
-// Rows 2 to 5.
-fn front_row(l: Layout, last: u8, kind: u8, left: usize) -> u8
-    ensures { λ r. ⌜ r ≡ frontRow l last kind left 0 ⌝ }
-{
-    let unknown = (kind < 1) | (6 < kind);
-    let short = left < bodies::body_length(kind);
-    let falls = (kind < last) | ((kind == 1) & (1 <= l.heads));
-    let surplus = one_too_many(l, kind);
-    row(2, unknown, row(3, short, row(4, falls, row(5, surplus, 0))))
-}
-
 // Rows 6 to 9 of the body b of a record with a name.
-fn named_row(l: Layout, kind: u8, repeated: bool, b: &[u8]) -> u8
+fn named_row(zones: usize, kind: u8, repeated: bool, b: &[u8]) -> u8
     requires { ⌜ (1 ≤ kind) × (kind ≤ 5) × (bodyLength kind ≤ length (now b)) ⌝ }
-    ensures { λ r. ⌜ r ≡ bodyRow l kind repeated (now (b .entry)) ⌝ }
+    ensures { λ r. ⌜ ((c : Content) → length (c .zones) ≡ zones → r ≡ bodyRow c kind repeated (now (b .entry))) ⌝ }
 {
     let well = names::name_ok_at(b, 0);
     match kind {
-        1 => rows::head_row(well, bodies::head_of(b)),
-        2 => rows::zone_row(well, repeated, bodies::zone_of(b)),
-        3 => rows::unit_row(well, l.zones, repeated, bodies::unit_of(b)),
-        4 => rows::point_row(well, l.zones, repeated, bodies::point_of(b)),
-        _ => rows::par_row(well, repeated, bodies::par_of(b)),
+        1 => record_rows::head_row(well, bodies::head_of(b)),
+        2 => record_rows::zone_row(well, repeated, bodies::zone_of(b)),
+        3 => record_rows::unit_row(well, zones, repeated, bodies::unit_of(b)),
+        4 => record_rows::point_row(well, zones, repeated, bodies::point_of(b)),
+        _ => record_rows::par_row(well, repeated, bodies::par_of(b)),
     }
 }
 
 // Rows 3, 10 and 11 of a factor with the bytes b behind its kind byte.
 fn factor_row(l: Layout, b: &[u8]) -> u8
     requires { ⌜ Allowed l ⌝ }
-    ensures { λ r. ⌜ r ≡ row 3 (cutShort 6 (length (now (b .entry)))) (bodyRow l 6 false (bodyIn 6 (now (b .entry)))) ⌝ }
+    ensures { λ r. ⌜ r ≡ row 3 (cutShort (bodyLength 6) (length (now (b .entry)))) (factorRow (dueOf l) (l .factors) (factorOf (bodyIn 6 (now (b .entry))))) ⌝ }
 {
-    if b.len() < 6 {
+    if b.len() < FACTOR_BODY {
         return 3;
     }
-    let f = bodies::factor_of(&b[0..6]);
-    rows::factor_row(l.zones, l.units, l.points, l.pars, l.factors, f)
+    let f = bodies::factor_of(&b[0..FACTOR_BODY]);
+    record_rows::factor_row(counts_in(l), l.factors, f)
 }
 
 // The first row that fits the record at a place, or 0. The table holds the names of the last kind, then of this record's.
@@ -89,25 +72,26 @@ fn record_row(s: &[u8], l: Layout, last: u8, at: usize, table: &mut [u16]) -> u8
 {
     let kind = s[at];
     let from = at + 1;
-    if kind == 6 {
+    if kind == FACTOR_KIND {
         return factor_row(l, &s[from..]);
     }
-    let front = front_row(l, last, kind, s.len() - from);
+    let earlier = layout::count_of(l, kind);
+    let front = record_rows::front_row(last, kind, earlier, s.len() - from);
     if front != 0 {
         return front;
     }
     let repeated = layout::repeated(s, l, kind, at, table);
     let to = from + bodies::body_length(kind);
-    named_row(l, kind, repeated, &s[from..to])
+    named_row(l.zones, kind, repeated, &s[from..to])
 }
 
 // Whether a factor with this target, subject and index stands at a place and passes.
 fn good_factor(s: &[u8], at: usize, key: u32) -> bool
-    requires { ⌜ at + 7 ≤ length (now s) ⌝ }
+    requires { ⌜ at + size 6 ≤ length (now s) ⌝ }
     ensures { λ r. ⌜ (r ≡ true → Good (now (s .entry)) at key) ⌝ }
 {
-    let due = (s[at] == 6) & (fields::be32_at(s, at + 1) == key);
-    due & !rows::factor_beyond(fields::sbe16_at(s, at + 5))
+    let due = (s[at] == FACTOR_KIND) & (fields::be32_at(s, at + 1) == key);
+    due & !record_rows::factor_beyond(fields::sbe16_at(s, at + 5))
 }
 
 fn least(a: usize, b: usize) -> usize
@@ -119,9 +103,9 @@ fn least(a: usize, b: usize) -> usize
 // How many good factors, up to `most`, follow one another from a place on, with rising index.
 fn good_factors(s: &[u8], at: usize, key: u32, most: usize) -> usize
     requires { ⌜ (at ≤ length (now s)) × (key + most < 2 ^ 32) ⌝ }
-    ensures { λ r. ⌜ (r ≤ most) × ((k : ℕ) → k < r → Good (now (s .entry)) (at + 7 * k) (key + k)) ⌝ }
+    ensures { λ r. ⌜ (r ≤ most) × ((k : ℕ) → k < r → Good (now (s .entry)) (at + size 6 * k) (key + k)) ⌝ }
 {
-    let whole = least((s.len() - at) / 7, most);
+    let whole = least((s.len() - at) / FACTOR_SIZE, most);
     let mut n = 0;
     let mut p = at;
     while n < whole {
@@ -129,7 +113,7 @@ fn good_factors(s: &[u8], at: usize, key: u32, most: usize) -> usize
             return n;
         }
         n += 1;
-        p += 7;
+        p += FACTOR_SIZE;
     }
     n
 }
@@ -148,14 +132,15 @@ fn past_factors(s: &[u8], l: Layout, last: u8, at: usize) -> Reached
     requires { ⌜ Passed (now s) at last (contentAt (now s) l) ⌝ }
     ensures { λ r. ⌜ (at ≤ r .at) × Passed (now (s .entry)) (r .at) last (contentAt (now (s .entry)) (r .l)) × ((table : List ℕ) → Listed (now (s .entry)) l last table → Listed (now (s .entry)) (r .l) last table) ⌝ }
 {
-    if last != 6 {
+    if last != FACTOR_KIND {
         return Reached { l, at };
     }
-    if due_factors::due_count(l.zones, l.units, l.points, l.pars) <= l.factors {
+    let counts = counts_in(l);
+    if due_factors::due_count(counts) <= l.factors {
         return Reached { l, at };
     }
-    let most = due_factors::due_run(l.zones, l.units, l.points, l.pars, l.factors);
-    let key = key_of(due_factors::due_at(l.zones, l.units, l.points, l.pars, l.factors));
+    let most = due_factors::more_of_run(counts, l.factors);
+    let key = key_of(due_factors::due_at(counts, l.factors));
     let n = good_factors(s, at, key, most);
     Reached {
         l: Layout {
@@ -166,18 +151,8 @@ fn past_factors(s: &[u8], l: Layout, last: u8, at: usize) -> Reached
             pars: l.pars,
             factors: l.factors + n,
         },
-        at: at + 7 * n,
+        at: at + FACTOR_SIZE * n,
     }
-}
-
-// Rows 12 and 13.
-fn end_row(l: Layout) -> u8
-    requires { ⌜ Allowed l ⌝ }
-    ensures { λ r. ⌜ r ≡ endRow l ⌝ }
-{
-    let none = (l.zones == 0) | (l.units == 0);
-    let still_due = l.factors < due_factors::due_count(l.zones, l.units, l.points, l.pars);
-    row(12, none, row(13, still_due, 0))
 }
 
 pub fn read(s: &[u8]) -> Outcome
@@ -186,7 +161,7 @@ pub fn read(s: &[u8]) -> Outcome
     if s.len() == 0 {
         return Outcome::Refused(1, 0);
     }
-    if s[0] != 1 {
+    if s[0] != records::HEAD_KIND {
         return Outcome::Refused(1, 0);
     }
     let mut l = Layout {
@@ -197,7 +172,7 @@ pub fn read(s: &[u8]) -> Outcome
         pars: 0,
         factors: 0,
     };
-    let mut table = [0u16; 842];
+    let mut table = [0u16; layout::TABLE_SIZE];
     let mut last = 0;
     let mut at = 0;
     while at < s.len() {
@@ -212,7 +187,7 @@ pub fn read(s: &[u8]) -> Outcome
         l = past.l;
         at = past.at;
     }
-    let number = end_row(l);
+    let number = record_rows::end_row(counts_in(l), l.factors);
     if number != 0 {
         return Outcome::Refused(number, at);
     }
@@ -224,35 +199,35 @@ pub fn head_at(s: &[u8], l: Layout) -> records::Head
     requires { ⌜ readSheet (now s) ≡ Accepted l ⌝ }
     ensures { λ r. ⌜ r ≡ head (contentOf (now (s .entry))) ⌝ }
 {
-    bodies::head_of(layout::body_at(s, l, 1, 0))
+    bodies::head_of(layout::body_at(s, l, records::HEAD_KIND, 0))
 }
 
 pub fn zone_at(s: &[u8], l: Layout, i: usize) -> records::Zone
     requires { ⌜ (readSheet (now s) ≡ Accepted l) × (i < l .zones) ⌝ }
     ensures { λ r. ⌜ r ≡ zone (contentOf (now (s .entry))) i ⌝ }
 {
-    bodies::zone_of(layout::body_at(s, l, 2, i))
+    bodies::zone_of(layout::body_at(s, l, records::ZONE_KIND, i))
 }
 
 pub fn unit_at(s: &[u8], l: Layout, i: usize) -> records::Unit
     requires { ⌜ (readSheet (now s) ≡ Accepted l) × (i < l .units) ⌝ }
     ensures { λ r. ⌜ r ≡ unit (contentOf (now (s .entry))) i ⌝ }
 {
-    bodies::unit_of(layout::body_at(s, l, 3, i))
+    bodies::unit_of(layout::body_at(s, l, records::UNIT_KIND, i))
 }
 
 pub fn point_at(s: &[u8], l: Layout, i: usize) -> records::Point
     requires { ⌜ (readSheet (now s) ≡ Accepted l) × (i < l .points) ⌝ }
     ensures { λ r. ⌜ r ≡ point (contentOf (now (s .entry))) i ⌝ }
 {
-    bodies::point_of(layout::body_at(s, l, 4, i))
+    bodies::point_of(layout::body_at(s, l, records::POINT_KIND, i))
 }
 
 pub fn par_at(s: &[u8], l: Layout, i: usize) -> records::Par
     requires { ⌜ (readSheet (now s) ≡ Accepted l) × (i < l .pars) ⌝ }
     ensures { λ r. ⌜ r ≡ par (contentOf (now (s .entry))) i ⌝ }
 {
-    bodies::par_of(layout::body_at(s, l, 5, i))
+    bodies::par_of(layout::body_at(s, l, records::PAR_KIND, i))
 }
 
 // The factor of the i-th of a subject on a target.
@@ -260,7 +235,7 @@ pub fn factor_at(s: &[u8], l: Layout, target: usize, subject: u8, i: usize) -> i
     requires { ⌜ (readSheet (now s) ≡ Accepted l) × Asked (l .zones) (l .units) (l .points) (l .pars) target subject i ⌝ }
     ensures { λ r. ⌜ r ≡ factorFor (contentOf (now (s .entry)) .factors) target subject (i + 1) ⌝ }
 {
-    let n = due_factors::due_place(l.zones, l.units, l.points, l.pars, target, subject, i);
-    let f = bodies::factor_of(layout::body_at(s, l, 6, n));
+    let n = due_factors::place_of(counts_in(l), target, subject, i);
+    let f = bodies::factor_of(layout::body_at(s, l, FACTOR_KIND, n));
     f.factor as i64
 }

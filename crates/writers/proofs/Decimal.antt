@@ -1,17 +1,15 @@
 -- Laws of decimal texts: their digits one by one, and how many there are.
 use mathlib.Core.Path.{_≡_, refl, ap}
 use mathlib.Core.Bool.{cond}
-use mathlib.Core.List.{List, [], _∷_, _++_}
+use mathlib.Core.List.{List, [], _∷_, _++_, append-assoc}
 use Prim.Native.Nat.{ℕ, zero, suc, _+_, _/_, _%_, _^_, _≤_, _<_}
 use native.Mathlib.Decide.{decLt}
 use native.Mathlib.Nat.{div-lt-iff-lt-mul, mul-comm, pow-succ'}
 use native.Mathlib.Omega.{arith}
 use borrow.Author.Tests.{lt-ltb, le-ltb}
 use lib.Dec.{T, ltb, lit<, ltb→lt}
-use lib.ListN.{length, set, length-append}
+use lib.ListN.{length, length-append}
 use Rattle.writers.specs.Text.{digit, digits, natural}
-use Rattle.writers.specs.Written.{Wrote}
-use Rattle.writers.proofs.Writing.{none, byte}
 
 fewer : (k n : ℕ) → n < 10 ^ suc (suc k) → n / 10 < 10 ^ suc k
 fewer k n h = (div-lt-iff-lt-mul (lit< tt)) .1 (rw (mul-comm (10 ^ suc k) 10, ← pow-succ') h)
@@ -62,12 +60,29 @@ natural-length (suc k) n h =
       | no b ↦ let g : 10 ≤ n = omega arith in omega (arith, one-more n g, natural-length k (n / 10) (fewer k n h))
     ]
 
--- what the two arms of `put_natural` write, v being the digit that is stored
-pub digit-written : (n v : ℕ) {xs : List ℕ} → n < 10 → v ≡ digit n → length (natural n) ≤ length xs → Wrote (natural n) xs (set xs 0 v) 1
-digit-written n v h e room = let one = one-digit n h in rw (natural-digit n h, ← e) (byte v none (omega arith))
+-- the two digits of a number below 100
+abbrev pub two : ℕ → List ℕ
+two n = digit (n / 10) ∷ digit (n % 10) ∷ []
 
-pub digit-behind : (n v : ℕ) {xs ys : List ℕ} {k : ℕ} → 10 ≤ n → v ≡ digit (n % 10) → length (natural n) ≤ length xs
-    → Wrote (natural (n / 10)) xs ys k → Wrote (natural n) xs (set ys k v) (k + 1)
-digit-behind n v h e room f =
-    let m = f .count in
-    rw (natural-more n h, ← e) (byte v f (omega (arith, one-more n h)))
+pub natural-two : (n : ℕ) → 10 ≤ n → n < 100 → natural n ≡ two (n % 100)
+natural-two n h k =
+    let e : n % 100 ≡ n = omega arith in
+    rw (natural-more n h, natural-digit (n / 10) (omega arith), e) refl
+
+-- all digits but the last two, and then these
+pub natural-behind : (n : ℕ) → 100 ≤ n → natural n ≡ natural (n / 100) ++ two (n % 100)
+natural-behind n h =
+    let e : n / 10 / 10 ≡ n / 100 = omega arith in
+    let f : n / 10 % 10 ≡ n % 100 / 10 = omega arith in
+    let g : n % 10 ≡ n % 100 % 10 = omega arith in
+    rw (natural-more n (omega arith), natural-more (n / 10) (omega arith), append-assoc, e, f, g) refl
+
+pub two-more : (n : ℕ) → 100 ≤ n → length (natural n) ≡ length (natural (n / 100)) + 2
+two-more n h = rw (natural-behind n h, length-append) refl
+
+pub two-at-least : (n : ℕ) → 10 ≤ n → 2 ≤ length (natural n)
+two-at-least n h =
+    elim (decLt n 100) [
+      | yes s ↦ rw (natural-two n h s) (omega arith)
+      | no b ↦ omega (arith, two-more n (omega arith))
+    ]

@@ -1,16 +1,16 @@
--- Laws of writers: what one leaves that wrote nothing, one byte more, or behind another.
+-- Laws of what is written to a buffer's front.
 use mathlib.Core.Path.{_≡_, refl, sym, subst}
-use mathlib.Core.List.{List, [], _∷_, _++_, append-nil, append-assoc}
-use Prim.Native.Nat.{ℕ, suc, _+_, _-_, _<_}
-use native.Mathlib.Numerals.{add-one}
+use mathlib.Core.List.{List, [], _++_, append-nil, append-assoc}
+use Prim.Native.Nat.{ℕ, _+_, _-_}
 use native.Mathlib.Omega.{arith}
-use lib.ListN.{length, take, drop, getD, set, length-append, length-drop, drop-of-length-le}
-use lib.Seq.{take-length, take-all, take-at, drop-at, set-at, drop-cons, drop-drop}
+use lib.ListN.{length, take, drop, length-append, length-drop, drop-of-length-le}
+use lib.Seq.{take-length, take-all, take-at, drop-at, drop-drop}
 use Rattle.io.specs.Counts.{Counts}
 use Rattle.io.proofs.Counting.{counts}
-use Rattle.writers.specs.Written.{written, Wrote}
+use Rattle.writers.specs.Written.{written}
+use Rattle.writers.specs.inner.Wrote.{Wrote}
 
--- nothing is written yet
+-- nothing is written
 pub none : {xs : List ℕ} → Wrote [] xs xs 0
 unfolding written
 none = record { left = refl; count = refl }
@@ -19,17 +19,6 @@ none = record { left = refl; count = refl }
 pub copied : {p xs ys : List ℕ} {n : ℕ} → n ≡ length p → ys ≡ take (length p) p ++ drop (length p) xs → Wrote p xs ys n
 unfolding written
 copied {p} e f = record { left = rw (take-length p) at f; count = e }
-
--- one byte is stored behind those that are written
-pub byte : (v : ℕ) {p xs ys : List ℕ} {n : ℕ} → Wrote p xs ys n → n < length xs → Wrote (p ++ (v ∷ [])) xs (set ys n v) (n + 1)
-unfolding written
-byte v {p} {xs} {ys} {n} f room =
-    let e = f .count in
-    let next : drop (length p) xs ≡ getD xs (length p) 0 ∷ drop (suc (length p)) xs = drop-cons xs (length p) 0 (omega arith) in
-    record {
-      left = rw (f .left, next, set-at p _ _ v n (sym e), length-append, append-assoc, add-one) refl;
-      count = rw (f .count, length-append) refl;
-    }
 
 -- one writer filled n bytes, and another the front of `&mut out[n..]`
 pub next : {p xs ys q zs : List ℕ} {n m : ℕ} → Wrote p xs ys n → Wrote q (take (length ys - n) (drop n ys)) zs m
@@ -50,12 +39,7 @@ next {p} {xs} {ys} {q} {zs} {n} {m} f g =
 pub renamed : {p q xs ys : List ℕ} {n : ℕ} → p ≡ q → Wrote p xs ys n → Wrote q xs ys n
 renamed {xs = xs} {ys = ys} {n = n} e f = subst (λ (bytes : List ℕ). Wrote bytes xs ys n) e f
 
--- the bytes that a writer counted are those that it wrote
-pub front : {p xs ys : List ℕ} {n : ℕ} → Wrote p xs ys n → take n ys ≡ p
-unfolding written
-front {p} {xs} {ys} {n} f = rw (f .left) (take-at p _ n (sym (f .count)))
-
--- and they lie within the buffer
+-- the bytes lie within the buffer
 pub counted : {p xs ys : List ℕ} {n : ℕ} → Wrote p xs ys n → Counts n ys
 unfolding written
 counted {p} {xs} {ys} {n} f =

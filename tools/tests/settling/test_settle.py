@@ -15,7 +15,7 @@ import unittest
 
 sys.path.insert(0, os.path.dirname(os.path.dirname(os.path.abspath(__file__))))
 
-from common import LONGEST, ROOT, SAMPLE, TOOL, content, run, to_bytes, write  # noqa: E402
+from common import LONGEST, ROOT, SAMPLE, content, run, to_bytes, write  # noqa: E402
 from m2mlib.cases import case_files, case_lines, sections  # noqa: E402
 from m2mlib.faults import faults  # noqa: E402
 from m2mlib.library import FIGURES, Library  # noqa: E402

@@ -4,7 +4,7 @@ use Rattle.integers.proofs.Machine.{Op, rd}
 use lib.IntN.{_-ℤ_}
 use denote.Ref.{now}
 use Rattle.balance.specs.inner.Ledger.{netAt}
-use Rattle.balance.proofs.Laws.{net}
+use Rattle.balance.proofs.Laws.{net-at-op}
 use Rattle.balance.proofs.net_at.Statement.{statement}
 use Rattle.balance.proofs.net_at.Tie as tie
 
@@ -18,7 +18,7 @@ left : (c : tie.After-amount-at2) → let s = c .before .before in
     Op (rd (c .before .amount-at .result) -ℤ rd (c .amount-at2 .result)) (netAt (now (s .args .plus)) (now (s .args .minus)) (s .args .z)) 2048000000
 left c =
     let s = c .before .before in
-    net _ _ (s .pre .1) (s .pre .2) (s .args .z) (s .pre .0) _ _ (c .before .amount-at .ensures) (c .amount-at2 .ensures)
+    net-at-op _ _ (s .pre .1) (s .pre .2) (s .args .z) (s .pre .0) _ _ (c .before .amount-at .ensures) (c .amount-at2 .ensures)
 
 sub-result : tie.Need-sub-result
 sub-result c = left c .fits

@@ -6,7 +6,7 @@ use mir.Syntax.{w64}
 use mir.Val.{SFits}
 use borrow.Author.Needs.{needs}
 use Rattle.balance.specs.inner.Balance.{sideOf}
-use Rattle.balance.proofs.Laws.{net-sum, final-sum}
+use Rattle.balance.proofs.Laws.{net-sum-op, final-sum-op}
 use Rattle.balance.proofs.side_of.Statement.{statement}
 use Rattle.balance.proofs.side_of.Tie as tie
 
@@ -19,7 +19,7 @@ total-requires-2 c κs = search needs
 sub-net : tie.Need-sub-net
 sub-net c =
     let p = c .before .before .pre in
-    net-sum _ _ (p .1) (p .2) _ (p .0) _ _ (c .before .total .ensures) (c .total2 .ensures) .fits
+    net-sum-op _ _ (p .1) (p .2) _ (p .0) _ _ (c .before .total .ensures) (c .total2 .ensures) .fits
 
 element-copy-out-t9 : tie.Need-element-copy-out-t9
 element-copy-out-t9 c = search needs
@@ -31,7 +31,7 @@ sub-t10 : tie.Need-sub-t10
 sub-t10 c =
     let t = c .before in
     let p = t .before .before .pre in
-    final-sum _ _ (p .1) (p .2) _ (p .0) _ _ (t .before .total .ensures) (t .total2 .ensures) .fits
+    final-sum-op _ _ (p .1) (p .2) _ (p .0) _ _ (t .before .total .ensures) (t .total2 .ensures) .fits
 
 none-below-zero-requires : tie.Need-none-below-zero-requires
 none-below-zero-requires c κs = search needs
@@ -43,7 +43,7 @@ returns c =
     let g = t .before in
     let p = g .before .pre in
     let fg : SFits w64 (g .total .result) = search needs in
-    rw (final-sum _ _ (p .1) (p .2) _ (p .0) _ _ (g .total .ensures) (t .total2 .ensures) .num .is, net-sum _ _ (p .1) (p .2) _ (p .0) _ _ (g .total .ensures) (t .total2 .ensures) .num .is, toZ-ofZ fg, g .total .ensures, c .none-below-zero .ensures)
+    rw (final-sum-op _ _ (p .1) (p .2) _ (p .0) _ _ (g .total .ensures) (t .total2 .ensures) .num .is, net-sum-op _ _ (p .1) (p .2) _ (p .0) _ _ (g .total .ensures) (t .total2 .ensures) .num .is, toZ-ofZ fg, g .total .ensures, c .none-below-zero .ensures)
 
 pub side-of-spec : {M : Type 1} → statement M
 side-of-spec =

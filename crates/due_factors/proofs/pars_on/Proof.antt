@@ -1,7 +1,7 @@
--- `pars_on` meets its contract. Assumes nothing.
-use native.Mathlib.Omega.{arith}
-use mathlib.Core.Path.{refl}
+-- `pars_on` meets its contract.
 use borrow.Author.Tests.{eq-eqb, ne-eqb}
+use mathlib.Core.Path.{refl}
+use native.Mathlib.Omega.{arith}
 use Rattle.due_factors.proofs.pars_on.Statement.{statement}
 use Rattle.due_factors.proofs.pars_on.Tie as tie
 

@@ -6,8 +6,8 @@ use denote.Ref.{now}
 use borrow.Author.Needs.{needs}
 use lib.ListN.{length, drop, length-drop}
 use Rattle.name_index.specs.inner.Index.{Indexed, namesAt}
-use Rattle.entitlements.proofs.Walk.{first-next, fault-here, fault-on, fault-end}
-use Rattle.entitlements.proofs.Records.{passes}
+use Rattle.entitlements.proofs.ByRecord.{first-next, fault-here, fault-on, fault-end}
+use Rattle.entitlements.proofs.RecordFault.{passes}
 use Rattle.entitlements.specs.inner.Steps.{runOf, firstNames}
 use Rattle.entitlements.specs.Entitlements.{anyFault, row14, recordLength}
 use Rattle.entitlements.proofs.any_fault.Statement.{statement}

@@ -3,7 +3,7 @@ use mathlib.Core.Path.{refl}
 use native.Mathlib.Omega.{arith}
 use denote.Ref.{now}
 use borrow.Author.Needs.{needs}
-use Rattle.name_index.proofs.Laws.{none-indexed}
+use Rattle.name_index.proofs.Table.{none-indexed}
 use Rattle.entitlements.specs.inner.Steps.{runOf}
 use Rattle.entitlements.proofs.faulty.Statement.{statement}
 use Rattle.entitlements.proofs.faulty.Tie as tie

@@ -1,4 +1,4 @@
--- `body_at` meets its contract: the record ends within the sheet. Assumes nothing.
+-- `body_at` meets its contract: the record ends within the sheet.
 use Prim.Native.Nat.{_+_, _*_, _≤_}
 use native.Mathlib.Omega.{arith}
 use native.Mathlib.Nat.{add-sub-cancel-left}

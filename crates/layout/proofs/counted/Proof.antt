@@ -1,10 +1,10 @@
--- `counted` meets its contract: the counts stay far below their type's largest number. Assumes nothing.
+-- `counted` meets its contract: the counts stay far below their type's largest number.
 use native.Mathlib.Nat.{add-zero}
 use native.Mathlib.Omega.{arith}
 use borrow.Author.Needs.{needs}
 use borrow.Author.Tests.{ne-eqb}
 use mathlib.Core.Path.{refl}
-use Rattle.layout.specs.Layout.{counted}
+use Rattle.layout.specs.inner.Places.{counted}
 use Rattle.layout.proofs.Places.{extent-is}
 use Rattle.layout.proofs.counted.Statement.{statement}
 use Rattle.layout.proofs.counted.Tie as tie

@@ -1,9 +1,9 @@
--- `first_of` meets its contract. The loop's invariant: the kinds below k end at `first`. Assumes nothing.
+-- `first_of` meets its contract. The loop's invariant: the kinds below k end at `first`.
 use Prim.Native.Nat.{_+_, _*_, _-_, _≤_}
 use mathlib.Core.Path.{_≡_, sym}
 use native.Mathlib.Omega.{arith}
 use borrow.Author.Needs.{needs}
-use Rattle.layout.specs.Layout.{firstOf, extent}
+use Rattle.layout.specs.inner.Places.{firstOf, extent}
 use Rattle.layout.proofs.Places.{first-one, first-next, first-most}
 use Rattle.layout.proofs.first_of.Statement.{statement}
 use Rattle.layout.proofs.first_of.Tie as tie

@@ -5,11 +5,10 @@ use native.Mathlib.Omega.{arith}
 use borrow.Author.Needs.{needs}
 use denote.Ref.{now}
 use lib.ListN.{length}
-use Rattle.name_index.specs.inner.Index.{placeOf}
-use Rattle.name_index.proofs.Laws.{next-indexed}
-use Rattle.layout.specs.Layout.{count, firstOf, startOf}
-use Rattle.layout.specs.Listed.{tableSize, runOf}
-use Rattle.layout.proofs.Names.{name-room, repeated-at}
+use Rattle.name_index.proofs.Table.{next-indexed}
+use Rattle.layout.specs.inner.Places.{firstOf}
+use Rattle.layout.specs.inner.Listed.{tableSize, runOf}
+use Rattle.layout.proofs.Names.{named-room, repeated-at}
 use Rattle.layout.proofs.Listed.{count-named, listed-next}
 use Rattle.layout.proofs.repeated.Statement.{statement}
 use Rattle.layout.proofs.repeated.Tie as tie
@@ -48,6 +47,9 @@ sub-base c =
     let p = c .before .before .before .before .before in
     omega (arith, c .named-of .ensures, c .before .before .count-of .ensures, count-named (p .args .l) (p .args .kind) (omega arith))
 
+add-seen-before : tie.Need-add-seen-before
+add-seen-before c = search needs
+
 seen-before-requires : tie.Need-seen-before-requires
 seen-before-requires c κs =
     let b = c .before in
@@ -56,10 +58,10 @@ seen-before-requires c κs =
     let n = b .before .before .count-of .ensures in
     let x = b .before .size-of .ensures .0 in
     let m = count-named (a .l) (a .kind) (omega arith) in
-    let r = name-room (a .kind) (p .pre .0) (omega arith) in
+    let r = named-room (a .kind) (p .pre .0) (omega arith) in
     let t = p .pre .5 in
     let e = t .full in
-    (omega (arith, behind (b .before), x), omega (arith, b .named-of .ensures), omega (arith, b .named-of .ensures, n), rw (begins (b .before), x, n, b .named-of .ensures .0) (t .holds (omega arith)))
+    (omega (arith, behind (b .before)), omega (arith, x), omega (arith, b .named-of .ensures), omega (arith, b .named-of .ensures, n), rw (begins (b .before), x, n, b .named-of .ensures .0) (t .holds (omega arith)))
 
 same-length : tie.Need-same-length
 same-length c = search needs
@@ -72,9 +74,8 @@ returns c =
     let f : length (now (a .table)) ≡ tableSize = p .pre .5 .full in
     let e = rw (begins (b .before), b .before .size-of .ensures .0, b .before .before .count-of .ensures, b .named-of .ensures .0) at (c .before .before .seen-before .ensures) in
     let n = b .before .before .count-of .ensures in
-    let m = count-named (a .l) (a .kind) (omega arith) in
-    let k : startOf (a .l) (a .kind) (count (a .l) (a .kind)) + 1 ≡ placeOf (runOf (a .l) (a .kind)) (count (a .l) (a .kind)) = omega arith in (
-      rw (← k, ← p .pre .2) at (e .0) ∙ repeated-at (now (a .s)) (a .l) (a .kind) (a .at + 1) (p .pre .0) (omega arith),
+    let m = count-named (a .l) (a .kind) (omega arith) in (
+      e .0 ∙ repeated-at (now (a .s)) (a .l) (a .kind) (a .at + 1) (p .pre .0) (omega arith),
       listed-next (now (a .s)) (a .l) (a .kind) _ (p .pre .0) (omega arith) (search (needs, f))
           (rw (e .1) (next-indexed (now (a .s)) (runOf (a .l) (a .kind)) (now (a .table)) (p .pre .5 .holds (omega arith)) (omega (arith, b .named-of .ensures, n)))),
       e .1,
@@ -91,6 +92,7 @@ repeated-spec =
     add-first
     named-of-requires
     sub-base
+    add-seen-before
     seen-before-requires
     same-length
     returns)

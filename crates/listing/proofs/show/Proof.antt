@@ -1,47 +1,44 @@
--- `show` writes the line of a refusal, or the listing.
+-- `show` copies what `put_shown` wrote at the scratch array's end.
+use Prim.Native.Nat.{ℕ}
 use native.Mathlib.Omega.{arith}
 use borrow.Author.Needs.{needs}
-use mir.Syntax.{w64}
-use mir.ValLaws.{toZ-pos}
-use Rattle.writers.specs.Text.{ascii}
+use lib.ListN.{length-replicate}
+use Rattle.writers.proofs.Prepending.{whole}
 use Rattle.writers.proofs.Writing.{renamed}
-use Rattle.listing.specs.Listing.{refusalLine}
-use Rattle.listing.proofs.Printing.{shown-refused, shown-accepted}
 use Rattle.listing.proofs.show.Statement.{statement}
 use Rattle.listing.proofs.show.Tie as tie
 
-slice-aggregate-put-line : tie.Need-slice-aggregate-put-line
-slice-aggregate-put-line c = search needs
+slice-aggregate-put-shown : tie.Need-slice-aggregate-put-shown
+slice-aggregate-put-shown c = search needs
 
-cast-put-line : tie.Need-cast-put-line
-cast-put-line c = search needs
+put-shown-requires : tie.Need-put-shown-requires
+put-shown-requires c κs = search needs
 
-put-line-requires : tie.Need-put-line-requires
-put-line-requires c κs = search needs
+sub-put : tie.Need-sub-put
+sub-put c = search needs
+
+part-put-start : tie.Need-part-put-start
+part-put-start c = search needs
+
+part-put-end : tie.Need-part-put-end
+part-put-end c = search needs
+
+put-requires : tie.Need-put-requires
+put-requires c κs = search needs
 
 returns : tie.Need-returns
-unfolding ascii refusalLine
 returns c =
-    let t = c .before .before .before .before in
-    let s = t .before .before .args .s in
-    let e = toZ-pos w64 (s .refusal) (omega arith) in
-    renamed (shown-refused s (t .if1 .taken)) (rw e at (c .put-line .ensures .0))
-
-put-listing-requires : tie.Need-put-listing-requires
-put-listing-requires c κs = search needs
-
-returns-2 : tie.Need-returns-2
-returns-2 c =
-    let t = c .before .before in
-    renamed (shown-accepted (t .before .before .args .s) (t .if1 .left)) (c .put-listing .ensures .0)
+    let p = c .before .before .before .before .before in
+    renamed (whole (p .put-shown .ensures) (omega (arith, length-replicate {A = ℕ} 495 0))) (c .put .ensures)
 
 pub show-spec : {M : Type 1} → statement M
 show-spec =
     tie.close
     (tie.spec
-    slice-aggregate-put-line
-    cast-put-line
-    put-line-requires
-    returns
-    put-listing-requires
-    returns-2)
+    slice-aggregate-put-shown
+    put-shown-requires
+    sub-put
+    part-put-start
+    part-put-end
+    put-requires
+    returns)

@@ -1,5 +1,5 @@
 -- `listed` meets its contract: a search that has come to the first names answers for all.
-use Prim.Native.Nat.{_+_, _*_, _-_}
+use Prim.Native.Nat.{_+_, _-_}
 use mathlib.Core.Path.{_≡_, sym, _∙_}
 use native.Mathlib.Omega.{arith}
 use denote.Ref.{now}
@@ -7,7 +7,7 @@ use borrow.Author.Needs.{needs}
 use Rattle.names.proofs.SameNames.{words-are}
 use Rattle.names.specs.Names.{nameAt, sameList}
 use Rattle.name_index.specs.inner.Index.{placeOf}
-use Rattle.name_index.proofs.Laws.{Reached, Looked, hash-small, search-first, search-end, search-on}
+use Rattle.name_index.proofs.Table.{Reached, Looked, hash-small, search-first, search-end, search-on}
 use Rattle.name_index.proofs.listed.Statement.{statement}
 use Rattle.name_index.proofs.listed.Tie as tie
 

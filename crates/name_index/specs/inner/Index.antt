@@ -6,7 +6,7 @@ use mathlib.Core.List.{List, [], _∷_}
 use lib.Bits.{bitAnd}
 use lib.Dec.{eqb}
 use lib.ListN.{length, getD, set}
-use Rattle.fields.specs.Fields.{be64}
+use Rattle.fields.specs.inner.Word.{be64}
 use Rattle.names.specs.Names.{nameAt}
 use Rattle.name_index.specs.declared.Run.{Run}
 

@@ -4,7 +4,7 @@ use mathlib.Core.Bool.{Bool, true, not, _&&_, cond}
 use mathlib.Core.List.{List, [], _∷_}
 use lib.Bits.{bitOr}
 use lib.Dec.{eqb}
-use Rattle.fields.specs.Fields.{be64}
+use Rattle.fields.specs.inner.Word.{be64}
 
 -- no byte is zero
 unfoldable pub nonZero : List ℕ → Bool

@@ -3,7 +3,8 @@ use Prim.Native.Nat.{_≤_}
 use lib.IntN.{ℤ, natAbs, _-ℤ_}
 use Rattle.records.specs.declared.Head.{Head}
 use Rattle.records.specs.Codes.{nyiso, pjm}
-use Rattle.records.specs.Valid.{HeadFits}
+use Rattle.record_rows.specs.inner.Valid.{HeadFits}
+use Rattle.figures.specs.Flow.{mostFlow}
 use Rattle.figures.specs.Payment.{inWatts, price, amountOf, payment}
 use Rattle.payment.specs.declared.Payment.{Payment}
 
@@ -19,5 +20,5 @@ paymentOf h flow entitlement = record {
 -- what rows 9, 14 and 22 leave
 pub record Payable (h : Head) (flow entitlement : ℤ) : Type 0 where
   pub head-fits : HeadFits h
-  pub flow-most : natAbs flow ≤ 10000000000
+  pub flow-most : natAbs flow ≤ mostFlow
   pub entitlement-most : natAbs entitlement ≤ 100000

@@ -2,7 +2,7 @@
 use mathlib.Core.Path.{ap}
 use borrow.Author.Needs.{needs}
 use Rattle.writers.proofs.Writing.{counted, renamed}
-use Rattle.listing.specs.Listing.{shown}
+use Rattle.printout.specs.Listing.{shown}
 use Rattle.report.specs.Report.{output}
 use Rattle.report.proofs.write_output.Statement.{statement}
 use Rattle.report.proofs.write_output.Tie as tie

@@ -8,7 +8,7 @@ use borrow.Author.Needs.{needs}
 use Rattle.records.specs.Content.{head}
 use Rattle.sheet.specs.Sheet.{contentOf}
 use Rattle.entitlements.specs.Entitlements.{entitlement}
-use Rattle.entitlements.proofs.Answers.{within}
+use Rattle.entitlements.proofs.Answers.{value-within}
 use Rattle.settlement.specs.Settled.{byList, afterSheet}
 use Rattle.settlement.proofs.settle_sheet.Statement.{statement}
 use Rattle.settlement.proofs.settle_sheet.Tie as tie
@@ -44,7 +44,7 @@ settle-balance-requires c κs =
     let f = c .before .before .before in
     let s = f .before .before .before .before .before .before in
     let e = sym (found-is f) ∙ c .before .e .given .1 in
-    (s .pre, rw (toZ-ofZ (e-fits c)) (within _ _ _ e))
+    (s .pre, rw (toZ-ofZ (e-fits c)) (value-within _ _ _ e))
 
 returns : tie.Need-returns
 unfolding afterSheet byList

@@ -1,13 +1,10 @@
--- `factor_row` meets its contract: cut short, or the rows of the factor. Assumes nothing.
+-- `factor_row` meets its contract: cut short, or the rows of the factor.
 use borrow.Author.Tests.{lt-ltb, le-ltb}
 use borrow.Author.Needs.{needs}
-use Rattle.records.specs.Bodies.{byKind}
-use Rattle.sheet.specs.Sheet.{bodyRow}
 use Rattle.sheet.proofs.factor_row.Statement.{statement}
 use Rattle.sheet.proofs.factor_row.Tie as tie
 
 returns : tie.Need-returns
-unfolding byKind
 returns c = rw (lt-ltb _ _ (c .if1 .taken))
 
 sub-factor-of : tie.Need-sub-factor-of
@@ -22,12 +19,16 @@ part-factor-of-end c = search needs
 factor-of-requires : tie.Need-factor-of-requires
 factor-of-requires c κs = search needs
 
+counts-in-requires : tie.Need-counts-in-requires
+counts-in-requires c κs = search needs
+
 factor-row-requires : tie.Need-factor-row-requires
-factor-row-requires c κs = c .before .before .before .before .pre .few
+factor-row-requires c κs = rw (c .counts-in .ensures) (c .before .before .before .before .before .pre .few)
 
 returns-2 : tie.Need-returns-2
-unfolding bodyRow byKind
-returns-2 c = rw (le-ltb _ _ (c .before .before .before .if1 .left), ← c .before .factor-of .ensures) (c .factor-row .ensures)
+returns-2 c =
+    let f = c .before .before in
+    rw (le-ltb _ _ (f .before .before .if1 .left), ← f .factor-of .ensures) (rw (c .before .counts-in .ensures) at (c .factor-row .ensures))
 
 pub factor-row-spec : {M : Type 1} → statement M
 factor-row-spec =
@@ -38,5 +39,6 @@ factor-row-spec =
     part-factor-of-start
     part-factor-of-end
     factor-of-requires
+    counts-in-requires
     factor-row-requires
     returns-2)

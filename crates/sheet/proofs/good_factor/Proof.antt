@@ -1,15 +1,15 @@
--- `good_factor` meets its contract. Assumes nothing.
+-- `good_factor` meets its contract.
 use Prim.Native.Nat.{ℕ, _<_}
 use mathlib.Core.Path.{sym, _∙_}
 use native.Mathlib.Omega.{arith}
 use borrow.Author.Tests.{eqb-true, not-true}
 use denote.Ref.{now}
 use Rattle.fields.specs.Fields.{byteAt}
+use Rattle.rows.proofs.NotMet.{both}
+use Rattle.sheet.proofs.good_factor.Statement.{statement}
 use mir.Facts.{toZ-ofZ}
 use mir.Syntax.{w16}
 use borrow.Author.Needs.{needs}
-use Rattle.sheet.proofs.Factors.{both}
-use Rattle.sheet.proofs.good_factor.Statement.{statement}
 use Rattle.sheet.proofs.good_factor.Tie as tie
 
 shared-slice-read-due : tie.Need-shared-slice-read-due

@@ -1,13 +1,12 @@
--- `good_factors` meets its contract. Assumes nothing.
+-- `good_factors` meets its contract.
 use Prim.Native.Nat.{ℕ, _+_, _*_, _-_, _≤_, _<_}
 use mathlib.Core.Path.{_≡_}
 use native.Mathlib.Omega.{arith}
-use lib.ListN.{length}
 use borrow.Author.Tests.{not-false}
-use Rattle.due_factors.proofs.Tab.{below-or}
-use Rattle.sheet.specs.Steps.{Good}
-use borrow.Author.Needs.{needs}
+use Rattle.integers.proofs.Cases.{below-or}
+use Rattle.sheet.specs.inner.GoodFactors.{Good}
 use Rattle.sheet.proofs.good_factors.Statement.{statement}
+use borrow.Author.Needs.{needs}
 use Rattle.sheet.proofs.good_factors.Tie as tie
 
 abbrev Inv-loop : tie.InvT-loop

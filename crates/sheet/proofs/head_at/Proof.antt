@@ -1,18 +1,15 @@
--- `head_at` meets its contract. Assumes nothing.
+-- `head_at` meets its contract.
 use native.Mathlib.Omega.{arith}
-use Rattle.records.specs.Bodies.{byKind}
 use Rattle.sheet.proofs.Accepted.{extent-is, some-head, head-is}
 use Rattle.sheet.proofs.head_at.Statement.{statement}
 use Rattle.sheet.proofs.head_at.Tie as tie
 
 body-at-requires : tie.Need-body-at-requires
-unfolding byKind
 body-at-requires c κs =
     let p = c .before .pre in
     (omega (arith, extent-is _ _ p), omega arith, omega arith, some-head _ _ p)
 
 head-of-requires : tie.Need-head-of-requires
-unfolding byKind
 head-of-requires c κs = omega (arith, c .body-at .ensures .1)
 
 returns : tie.Need-returns

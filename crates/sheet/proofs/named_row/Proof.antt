@@ -5,9 +5,9 @@ use borrow.Author.Needs.{needs}
 use native.Mathlib.Omega.{arith}
 use denote.Ref.{now}
 use Rattle.names.specs.Names.{nameOk, nameAt}
-use Rattle.records.specs.Bodies.{byKind, headOf, zoneOf, unitOf, pointOf, parOf}
-use Rattle.layout.proofs.Names.{name-room}
-use Rattle.sheet.specs.Sheet.{bodyRow}
+use Rattle.records.specs.Bodies.{headOf, zoneOf, unitOf, pointOf, parOf}
+use Rattle.layout.proofs.Names.{named-room}
+use Rattle.record_rows.specs.Rows.{bodyRow}
 use Rattle.sheet.proofs.named_row.Statement.{statement}
 use Rattle.sheet.proofs.named_row.Tie as tie
 
@@ -22,13 +22,12 @@ is-par c =
     fifth _ (p .0) (p .1) (n .0 .0 .0 .1) (n .0 .0 .1) (n .0 .1) (n .1)
 
 name-ok-at-requires : tie.Need-name-ok-at-requires
-name-ok-at-requires c κs = let p = c .before .pre in omega (arith, name-room _ (p .0) (p .1), p .2)
+name-ok-at-requires c κs = let p = c .before .pre in omega (arith, named-room _ (p .0) (p .1), p .2)
 
 well : (c : tie.After-name-ok-at) → c .name-ok-at .result ≡ nameOk (nameAt (now (c .before .before .args .b)) 0)
 well c = c .name-ok-at .ensures
 
 head-of-requires : tie.Need-head-of-requires
-unfolding byKind
 head-of-requires c κs = rw (c .match .keys1) at (c .before .before .before .pre .2)
 
 head-row-requires : tie.Need-head-row-requires
@@ -36,7 +35,6 @@ unfolding headOf
 head-row-requires c κs = rw (c .head-of .ensures) (well (c .before .before))
 
 zone-of-requires : tie.Need-zone-of-requires
-unfolding byKind
 zone-of-requires c κs = rw (c .match .keys2) at (c .before .before .before .pre .2)
 
 zone-row-requires : tie.Need-zone-row-requires
@@ -44,7 +42,6 @@ unfolding zoneOf
 zone-row-requires c κs = rw (c .zone-of .ensures) (well (c .before .before))
 
 unit-of-requires : tie.Need-unit-of-requires
-unfolding byKind
 unit-of-requires c κs = rw (c .match .keys3) at (c .before .before .before .pre .2)
 
 unit-row-requires : tie.Need-unit-row-requires
@@ -52,7 +49,6 @@ unfolding unitOf
 unit-row-requires c κs = rw (c .unit-of .ensures) (well (c .before .before))
 
 point-of-requires : tie.Need-point-of-requires
-unfolding byKind
 point-of-requires c κs = rw (c .match .keys4) at (c .before .before .before .pre .2)
 
 point-row-requires : tie.Need-point-row-requires
@@ -60,7 +56,6 @@ unfolding pointOf
 point-row-requires c κs = rw (c .point-of .ensures) (well (c .before .before))
 
 par-of-requires : tie.Need-par-of-requires
-unfolding byKind
 par-of-requires c κs = rw (is-par c) at (c .before .before .before .pre .2)
 
 par-row-requires : tie.Need-par-row-requires
@@ -68,24 +63,24 @@ unfolding parOf
 par-row-requires c κs = rw (c .par-of .ensures) (well (c .before .before))
 
 returns : tie.Need-returns
-unfolding bodyRow byKind
-returns c = rw (c .before .before .match .keys1, ← c .before .head-of .ensures) (c .head-row .ensures)
+unfolding bodyRow
+returns c = λ d z. rw (c .before .before .match .keys1, ← c .before .head-of .ensures) (c .head-row .ensures)
 
 returns-2 : tie.Need-returns-2
-unfolding bodyRow byKind
-returns-2 c = rw (c .before .before .match .keys2, ← c .before .zone-of .ensures) (c .zone-row .ensures)
+unfolding bodyRow
+returns-2 c = λ d z. rw (c .before .before .match .keys2, ← c .before .zone-of .ensures) (c .zone-row .ensures)
 
 returns-3 : tie.Need-returns-3
-unfolding bodyRow byKind
-returns-3 c = rw (c .before .before .match .keys3, ← c .before .unit-of .ensures) (c .unit-row .ensures)
+unfolding bodyRow
+returns-3 c = λ d z. rw (c .before .before .match .keys3, z, ← c .before .unit-of .ensures) (c .unit-row .ensures)
 
 returns-4 : tie.Need-returns-4
-unfolding bodyRow byKind
-returns-4 c = rw (c .before .before .match .keys4, ← c .before .point-of .ensures) (c .point-row .ensures)
+unfolding bodyRow
+returns-4 c = λ d z. rw (c .before .before .match .keys4, z, ← c .before .point-of .ensures) (c .point-row .ensures)
 
 returns-5 : tie.Need-returns-5
-unfolding bodyRow byKind
-returns-5 c = rw (is-par (c .before .before), ← c .before .par-of .ensures) (c .par-row .ensures)
+unfolding bodyRow
+returns-5 c = λ d z. rw (is-par (c .before .before), ← c .before .par-of .ensures) (c .par-row .ensures)
 
 pub named-row-spec : {M : Type 1} → statement M
 named-row-spec =

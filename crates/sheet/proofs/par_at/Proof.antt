@@ -1,18 +1,15 @@
--- `par_at` meets its contract. Assumes nothing.
+-- `par_at` meets its contract.
 use native.Mathlib.Omega.{arith}
-use Rattle.records.specs.Bodies.{byKind}
 use Rattle.sheet.proofs.Accepted.{extent-is, par-is}
 use Rattle.sheet.proofs.par_at.Statement.{statement}
 use Rattle.sheet.proofs.par_at.Tie as tie
 
 body-at-requires : tie.Need-body-at-requires
-unfolding byKind
 body-at-requires c κs =
     let p = c .before .pre in
     (omega (arith, extent-is _ _ (p .0)), omega arith, omega arith, p .1)
 
 par-of-requires : tie.Need-par-of-requires
-unfolding byKind
 par-of-requires c κs = omega (arith, c .body-at .ensures .1)
 
 returns : tie.Need-returns

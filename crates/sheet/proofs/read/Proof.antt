@@ -1,4 +1,4 @@
--- `read` meets its contract. The loop's invariant: the records before `at` have passed, and `l` counts them. Assumes nothing.
+-- `read` meets its contract. The loop's invariant: the records before `at` have passed, and `l` counts them.
 use Prim.Native.Nat.{_-_}
 use mathlib.Core.Path.{_≡_, sym, _∙_}
 use native.Mathlib.Omega.{arith}
@@ -6,14 +6,15 @@ use lib.ListN.{length, drop}
 use borrow.Author.Tests.{eq-eqb, ne-eqb}
 use borrow.Author.Needs.{needs}
 use denote.Ref.{now}
-use Rattle.layout.proofs.Contents.{none-at, layout-at}
+use Rattle.layout.proofs.Contents.{count-at, counts-at, none-at, layout-at}
 use Rattle.layout.proofs.Listed.{listed-none}
-use Rattle.layout.specs.Layout.{contentAt}
-use Rattle.layout.specs.Listed.{Listed}
-use Rattle.sheet.specs.Passed.{Passed, none, more}
+use Rattle.record_rows.specs.Rows.{lastRow}
+use Rattle.layout.specs.inner.Places.{contentAt}
+use Rattle.layout.specs.inner.Listed.{Listed}
+use Rattle.sheet.specs.inner.Passed.{Passed, none, more}
 use Rattle.sheet.specs.Sheet.{recordsFrom, reading, readSheet}
-use Rattle.sheet.proofs.Walk.{rowHere, first-empty, first-other, read-first, read-on, from-refused, from-end}
-use Rattle.sheet.proofs.Reach.{at-laid, at-allowed, at-fronted, at-next}
+use Rattle.sheet.proofs.RecordByRecord.{rowHere, first-empty, first-other, read-first, read-on, from-refused, from-end}
+use Rattle.sheet.proofs.Passing.{at-laid, at-allowed, at-fronted, at-next}
 use Rattle.sheet.proofs.read.Statement.{statement}
 use Rattle.sheet.proofs.read.Tie as tie
 
@@ -113,24 +114,38 @@ loop-again c =
     let p = f .past-factors .ensures in
     (p .1, p .2 _ (rw (f .before .before .counted .ensures) (e .before .before .record-row .ensures .1 (e .if3 .left))))
 
+counts-in-requires : tie.Need-counts-in-requires Inv-loop μ-loop
+counts-in-requires c κs = search needs
+
 end-row-requires : tie.Need-end-row-requires Inv-loop μ-loop
-end-row-requires c κs = at-allowed _ _ _ _ (c .before .loop .inv .0)
+end-row-requires c κs = rw (c .counts-in .ensures) (at-allowed _ _ _ _ (c .before .before .loop .inv .0) .few)
+
+-- the rows at the sheet's end
+ends : (c : tie.After-end-row Inv-loop μ-loop) →
+    let a = c .before .before .before in
+    let s = now (a .before .before .before .before .before .args .s) in
+    lastRow (contentAt s (a .loop .l)) ≡ c .end-row .result
+unfolding lastRow
+ends c =
+    let a = c .before .before .before in
+    let s = now (a .before .before .before .before .before .args .s) in
+    rw (counts-at s (a .loop .l), count-at s (a .loop .l) 6) (sym (rw (c .before .counts-in .ensures) at (c .end-row .ensures)))
 
 returns-4 : tie.Need-returns-4 Inv-loop μ-loop
 unfolding readSheet
 returns-4 c =
-    let a = c .before .before .before in
+    let a = c .before .before .before .before in
     let l = a .loop in
     let s = now (a .before .before .before .before .before .args .s) in
-    rw (← rest a, from-end s (l .at) (l .last) (contentAt s (l .l)) (c .before .before .loop-test .left), layout-at s (l .l), ← c .before .end-row .ensures, ne-eqb _ _ (c .if4 .taken))
+    rw (← rest a, from-end s (l .at) (l .last) (contentAt s (l .l)) (c .before .before .before .loop-test .left), ends (c .before), ne-eqb _ _ (c .if4 .taken))
 
 returns-5 : tie.Need-returns-5 Inv-loop μ-loop
 unfolding readSheet
 returns-5 c =
-    let a = c .before .before .before in
+    let a = c .before .before .before .before in
     let l = a .loop in
     let s = now (a .before .before .before .before .before .args .s) in
-    rw (← rest a, from-end s (l .at) (l .last) (contentAt s (l .l)) (c .before .before .loop-test .left), layout-at s (l .l), ← c .before .end-row .ensures, eq-eqb _ _ (c .if4 .left), layout-at s (l .l))
+    rw (← rest a, from-end s (l .at) (l .last) (contentAt s (l .l)) (c .before .before .before .loop-test .left), ends (c .before), eq-eqb _ _ (c .if4 .left), layout-at s (l .l))
 
 pub read-spec : {M : Type 1} → statement M
 read-spec =
@@ -153,6 +168,7 @@ read-spec =
     past-factors-requires
     loop-less
     loop-again
+    counts-in-requires
     end-row-requires
     returns-4
     returns-5)

@@ -1,34 +1,38 @@
--- `record_row` meets its contract: where rows 2 to 5 pass the body is whole and stands behind the others of its kind. Assumes nothing.
-use Prim.Native.Nat.{ℕ, _+_, _-_}
+-- `record_row` meets its contract: where rows 2 to 5 pass the body is whole and stands behind the others of its kind.
+use Prim.Native.Nat.{_+_, _-_}
 use mathlib.Core.Path.{_≡_, sym, _∙_}
-use mathlib.Core.List.{List}
 use native.Mathlib.Omega.{arith}
 use native.Mathlib.Nat.{add-sub-cancel-left}
-use lib.ListN.{length, take, drop, length-drop, length-take}
-use lib.Seq.{take-length}
+use lib.ListN.{length, drop, length-drop, length-take}
 use borrow.Author.Tests.{eq-eqb, ne-eqb}
 use borrow.Author.Needs.{needs}
 use denote.Ref.{now}
-use Rattle.layout.proofs.Contents.{layout-at}
 use Rattle.fields.specs.Fields.{byteAt}
-use Rattle.records.specs.Bodies.{byKind}
+use Rattle.records.specs.Content.{countOf}
+use Rattle.record_rows.specs.Rows.{recordRow}
+use Rattle.record_rows.proofs.FrontRows.{Fronted, front-pass, front-split}
+use Rattle.layout.specs.inner.Places.{contentAt}
+use Rattle.fields.proofs.Lists.{tail-is}
+use Rattle.layout.proofs.Contents.{count-at, zones-at}
 use Rattle.layout.proofs.Laid.{laid-at}
 use Rattle.layout.proofs.Listed.{listed-at}
-use Rattle.sheet.specs.Sheet.{recordRow, bodyRow}
-use Rattle.sheet.proofs.Reach.{reach-last, at-laid, at-allowed}
-use Rattle.sheet.proofs.Front.{Fronted, front-pass, front-split, front-factor}
+use Rattle.sheet.proofs.Passing.{passed-last, record-factor, at-laid, at-allowed}
 use Rattle.sheet.proofs.record_row.Statement.{statement}
 use Rattle.sheet.proofs.record_row.Tie as tie
 
 -- rows 2 to 5 have passed
 passes : (c : tie.Else2) →
-    let a = c .before .before .before .before .before .before .args in
-    Fronted (a .l) (a .last) (byteAt (now (a .s)) (a .at)) (length (now (a .s)) - (a .at + 1))
+    let a = c .before .before .before .before .before .before .before .args in
+    Fronted (a .last) (byteAt (now (a .s)) (a .at)) (c .before .before .count-of .result) (length (now (a .s)) - (a .at + 1))
 passes c = front-pass _ _ _ _ 0 (sym (c .before .front-row .ensures) ∙ c .if2 .left) .0
 
--- what is left of the sheet
-tail-is : (s : List ℕ) (from : ℕ) → take (length s - from) (drop from s) ≡ drop from s
-tail-is s from = rw (← length-drop from s, take-length (drop from s))
+-- how many of the kind stand before
+earlier : (c : tie.After-count-of) →
+    let a = c .before .before .before .before .before .args in
+    countOf (contentAt (now (a .s)) (a .l)) (byteAt (now (a .s)) (a .at)) ≡ c .count-of .result
+earlier c =
+    let a = c .before .before .before .before .before .args in
+    count-at (now (a .s)) (a .l) (byteAt (now (a .s)) (a .at)) ∙ sym (c .count-of .ensures)
 
 shared-slice-read-kind : tie.Need-shared-slice-read-kind
 shared-slice-read-kind c = search needs
@@ -49,7 +53,6 @@ factor-row-requires : tie.Need-factor-row-requires
 factor-row-requires c κs = at-allowed _ _ _ _ (c .before .before .before .before .before .pre .0)
 
 returns : tie.Need-returns
-unfolding recordRow bodyRow byKind
 returns c =
     let k = c .before .before in
     let p = k .before .before .before .before in
@@ -57,10 +60,10 @@ returns c =
     let s = now (a .s) in
     let e = rw (tail-is s (a .at + 1)) at (c .factor-row .ensures) in
     let t = p .pre .2 in
-    rw (k .if1 .taken) (
-      rw (layout-at s (a .l), front-factor (a .l) (a .last) (length (drop (a .at + 1) s)) _ (reach-last s (p .pre .0))) e,
-      λ q. record { full = t .full; holds = λ h. absurd (omega arith) },
-    )
+    (e ∙ sym (record-factor s (a .l) (a .last) _ (drop (a .at + 1) s) (k .if1 .taken) (passed-last s (p .pre .0))), λ q. record { full = t .full; holds = λ h. absurd (omega (arith, k .if1 .taken)) })
+
+count-of-requires : tie.Need-count-of-requires
+count-of-requires c κs = search needs
 
 sub-front-row : tie.Need-sub-front-row
 sub-front-row c = search needs
@@ -71,13 +74,14 @@ front-row-requires c κs = search needs
 returns-2 : tie.Need-returns-2
 unfolding recordRow
 returns-2 c =
-    let a = c .before .before .before .before .before .before .args in
+    let n = c .before .before in
+    let a = n .before .before .before .before .before .args in
     let s = now (a .s) in
-    (rw (layout-at s (a .l), length-drop (a .at + 1) s, front-split, ← c .before .front-row .ensures, ne-eqb _ _ (c .if2 .taken)), λ e. absurd (c .if2 .taken e))
+    (rw (earlier n, length-drop (a .at + 1) s, front-split, ← c .before .front-row .ensures, ne-eqb _ _ (c .if2 .taken)), λ e. absurd (c .if2 .taken e))
 
 repeated-requires : tie.Need-repeated-requires
 repeated-requires c κs =
-    let k = c .before .before .before in
+    let k = c .before .before .before .before in
     let p = k .before .before .before .before in
     let a = p .args in
     let f = passes (c .before) in
@@ -104,7 +108,7 @@ named-row-requires : tie.Need-named-row-requires
 named-row-requires c κs =
     let e = c .before .before .before .before .before .before in
     let f = passes e in
-    let n = e .before .before .if1 .left in
+    let n = e .before .before .before .if1 .left in
     (f .low, omega (arith, n, f .high), simp (length-take, length-drop) (omega (arith, f .fits, c .before .body-length .ensures)))
 
 same-length : tie.Need-same-length
@@ -116,10 +120,10 @@ returns-3 c =
     let b = c .before .before in
     let r = b .before .before .before in
     let g = r .before .before .before in
-    let a = g .before .before .before .before .before .args in
+    let a = g .before .before .before .before .before .before .args in
     let s = now (a .s) in
-    let e = simp add-sub-cancel-left at (c .named-row .ensures) in (
-      rw (layout-at s (a .l), length-drop (a .at + 1) s, front-split, ← g .front-row .ensures, eq-eqb _ _ (r .before .before .if2 .left))
+    let e = simp add-sub-cancel-left at (c .named-row .ensures (contentAt s (a .l)) (zones-at s (a .l))) in (
+      rw (earlier (g .before), length-drop (a .at + 1) s, front-split, ← g .front-row .ensures, eq-eqb _ _ (r .before .before .if2 .left))
           (rw (b .body-length .ensures, r .repeated .ensures .0) at e),
       λ q. r .repeated .ensures .1,
     )
@@ -135,6 +139,7 @@ record-row-spec =
     part-factor-row-end
     factor-row-requires
     returns
+    count-of-requires
     sub-front-row
     front-row-requires
     returns-2

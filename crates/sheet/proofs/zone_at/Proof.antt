@@ -1,18 +1,15 @@
--- `zone_at` meets its contract. Assumes nothing.
+-- `zone_at` meets its contract.
 use native.Mathlib.Omega.{arith}
-use Rattle.records.specs.Bodies.{byKind}
 use Rattle.sheet.proofs.Accepted.{extent-is, zone-is}
 use Rattle.sheet.proofs.zone_at.Statement.{statement}
 use Rattle.sheet.proofs.zone_at.Tie as tie
 
 body-at-requires : tie.Need-body-at-requires
-unfolding byKind
 body-at-requires c κs =
     let p = c .before .pre in
     (omega (arith, extent-is _ _ (p .0)), omega arith, omega arith, p .1)
 
 zone-of-requires : tie.Need-zone-of-requires
-unfolding byKind
 zone-of-requires c κs = omega (arith, c .body-at .ensures .1)
 
 returns : tie.Need-returns

@@ -12,7 +12,7 @@ use Rattle.integers.proofs.Machine.{Op, rd, num-s}
 use Rattle.layout.specs.declared.Layout.{Layout}
 use Rattle.records.specs.declared.Par.{Par}
 use Rattle.records.specs.Content.{par}
-use Rattle.records.specs.Valid.{ParFits}
+use Rattle.record_rows.specs.inner.Valid.{ParFits}
 use Rattle.sheet.specs.declared.Outcome.the-variants.{Accepted}
 use Rattle.sheet.specs.Sheet.{readSheet, contentOf}
 use Rattle.sheet.proofs.Accepted.{valid, counts}

@@ -13,7 +13,7 @@ use Rattle.integers.proofs.Machine.{num-u}
 use Rattle.layout.specs.declared.Layout.{Layout}
 use Rattle.records.specs.declared.Point.{Point}
 use Rattle.records.specs.Content.{point}
-use Rattle.records.specs.Valid.{PointFits}
+use Rattle.record_rows.specs.inner.Valid.{PointFits}
 use Rattle.sheet.specs.declared.Outcome.the-variants.{Accepted}
 use Rattle.sheet.specs.Sheet.{readSheet, contentOf}
 use Rattle.sheet.proofs.Accepted.{valid, counts}

@@ -1,8 +1,7 @@
--- `put_decimal` writes the magnitude's digits, behind a minus where the number is negative.
+-- `put_decimal` writes the magnitude's digits, and a minus before those of a negative number.
 use mathlib.Core.Path.{_≡_, ap, _∙_}
 use Prim.Native.Nat.{_≤_}
 use native.Mathlib.Omega.{arith}
-use borrow.Author.Needs.{needs}
 use lib.IntN.{ℤ, natAbs}
 use lib.ListN.{length}
 use mir.Syntax.{w64}
@@ -10,7 +9,8 @@ use mir.ValLaws.{toZ-ofZ}
 use Rattle.writers.specs.Text.{ascii, natural}
 use Rattle.integers.proofs.Machine.{negative, not-negative}
 use Rattle.writers.proofs.Signs.{magnitude-room, decimal-negative, decimal-natural}
-use Rattle.writers.proofs.Writing.{next}
+use Rattle.writers.proofs.Prepending.{ahead}
+use borrow.Author.Needs.{needs}
 use Rattle.writers.proofs.put_decimal.Statement.{statement}
 use Rattle.writers.proofs.put_decimal.Tie as tie
 
@@ -28,26 +28,17 @@ module _ (c : tie.After-magnitude) where
 magnitude-requires : tie.Need-magnitude-requires
 magnitude-requires c κs = search needs
 
-slice-aggregate-put : tie.Need-slice-aggregate-put
-slice-aggregate-put c = search needs
-
-put-requires : tie.Need-put-requires
-put-requires c κs = search needs
-
-sub-put-natural : tie.Need-sub-put-natural
-sub-put-natural c = search needs
-
-part-put-natural-start : tie.Need-part-put-natural-start
-part-put-natural-start c = search needs
-
-part-put-natural-end : tie.Need-part-put-natural-end
-part-put-natural-end c = search needs
-
 put-natural-requires : tie.Need-put-natural-requires
-put-natural-requires c κs = omega (arith, room (c .before .before .before .before .before .before .before))
+put-natural-requires c κs = (omega (arith, room (c .before)), search needs)
 
-add-n : tie.Need-add-n
-add-n c = omega (arith, room (c .before .before .before .before .before .before .before .before .before .before))
+slice-aggregate-put-bytes : tie.Need-slice-aggregate-put-bytes
+slice-aggregate-put-bytes c = search needs
+
+put-bytes-requires : tie.Need-put-bytes-requires
+put-bytes-requires c κs =
+    let p = c .before .before .before .before .before in
+    let n = p .put-natural .ensures .count in
+    (omega (arith, room (p .before .before)), search needs)
 
 same-length : tie.Need-same-length
 same-length c = search needs
@@ -55,39 +46,35 @@ same-length c = search needs
 returns : tie.Need-returns
 unfolding ascii
 returns c =
-    let p = c .before .before .before .before .before .before in
-    let t = p .before .before .before in
-    let m = t .before in
+    let w = c .before .before .put-bytes .ensures in
+    let t = c .before .before .before .before .before in
+    let p = t .before .before .before in
+    let m = p .before .before in
     let d = negative (z m) (m .before .before .fits .z) (t .if1 .taken) in
-    (rw (decimal-negative _ _ _ (d .1) (distance m)) (next (p .put .ensures) (c .before .before .put-natural .ensures)), omega (arith, room m))
-
-put-natural-requires-2 : tie.Need-put-natural-requires-2
-put-natural-requires-2 c κs = omega (arith, room (c .before .before))
+    let a = w .count in
+    let b = p .put-natural .ensures .count in
+    (rw (decimal-negative _ _ _ (d .1) (distance m)) (ahead (p .put-natural .ensures) w), omega (arith, room m))
 
 same-length-2 : tie.Need-same-length-2
 same-length-2 c = search needs
 
 returns-2 : tie.Need-returns-2
 returns-2 c =
-    let t = c .before .before .before .before in
-    let m = t .before in
-    let d = not-negative (z m) (m .before .before .fits .z) (t .if1 .left) in
-    (rw (decimal-natural _ _ _ (d .1) (distance m)) (c .before .before .put-natural2 .ensures), omega (arith, room m))
+    let p = c .before .before .before in
+    let m = p .before .before in
+    let d = not-negative (z m) (m .before .before .fits .z) (c .if1 .left) in
+    let n = p .put-natural .ensures .count in
+    (rw (decimal-natural _ _ _ (d .1) (distance m)) (p .put-natural .ensures), omega (arith, room m))
 
 pub put-decimal-spec : {M : Type 1} → statement M
 put-decimal-spec =
     tie.close
     (tie.spec
     magnitude-requires
-    slice-aggregate-put
-    put-requires
-    sub-put-natural
-    part-put-natural-start
-    part-put-natural-end
     put-natural-requires
-    add-n
+    slice-aggregate-put-bytes
+    put-bytes-requires
     same-length
     returns
-    put-natural-requires-2
     same-length-2
     returns-2)

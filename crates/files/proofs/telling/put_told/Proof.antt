@@ -3,7 +3,7 @@ use Prim.Native.Nat.{ℕ}
 use mathlib.Core.List.{List}
 use Rattle.io.specs.Counts.{Counts}
 use Rattle.writers.specs.Text.{ascii}
-use Rattle.writers.specs.Written.{Wrote}
+use Rattle.writers.specs.inner.Wrote.{Wrote}
 use Rattle.writers.proofs.Writing.{next, counted}
 use Rattle.files.specs.inner.Telling.{told}
 use borrow.Author.Needs.{needs}

@@ -1,4 +1,4 @@
--- `factor_of` meets its contract. Assumes nothing.
+-- `factor_of` meets its contract.
 use mir.Facts.{toZ-ofZ}
 use mir.Syntax.{w16}
 use borrow.Author.Needs.{needs}

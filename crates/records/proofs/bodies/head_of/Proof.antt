@@ -1,4 +1,4 @@
--- `head_of` meets its contract. Assumes nothing.
+-- `head_of` meets its contract.
 use borrow.Author.Needs.{needs}
 use Rattle.records.specs.Bodies.{headOf}
 use Rattle.records.proofs.bodies.head_of.Statement.{statement}

@@ -1,4 +1,4 @@
--- `name_of` meets its contract: the body's first 16 bytes one by one. Assumes nothing.
+-- `name_of` meets its contract: the body's first 16 bytes one by one.
 use borrow.Author.Needs.{needs}
 use denote.Ref.{now}
 use Rattle.records.proofs.Front.{front-is}

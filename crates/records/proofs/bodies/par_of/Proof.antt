@@ -1,4 +1,4 @@
--- `par_of` meets its contract. Assumes nothing.
+-- `par_of` meets its contract.
 use mir.Facts.{toZ-ofZ}
 use mir.Syntax.{w32}
 use borrow.Author.Needs.{needs}

@@ -1,4 +1,4 @@
--- `place_of` meets its contract. Assumes nothing.
+-- `place_of` meets its contract.
 use borrow.Author.Tests.{eq-eqb, ne-eqb}
 use Rattle.records.proofs.bodies.place_of.Statement.{statement}
 use Rattle.records.proofs.bodies.place_of.Tie as tie

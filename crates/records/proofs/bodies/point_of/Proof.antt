@@ -1,4 +1,4 @@
--- `point_of` meets its contract. Assumes nothing.
+-- `point_of` meets its contract.
 use borrow.Author.Needs.{needs}
 use Rattle.records.specs.Bodies.{pointOf}
 use Rattle.records.proofs.bodies.point_of.Statement.{statement}

@@ -1,4 +1,4 @@
--- `unit_of` meets its contract. Assumes nothing.
+-- `unit_of` meets its contract.
 use borrow.Author.Needs.{needs}
 use Rattle.records.specs.Bodies.{unitOf}
 use Rattle.records.proofs.bodies.unit_of.Statement.{statement}

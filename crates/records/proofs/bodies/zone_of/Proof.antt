@@ -1,4 +1,4 @@
--- `zone_of` meets its contract. Assumes nothing.
+-- `zone_of` meets its contract.
 use borrow.Author.Needs.{needs}
 use Rattle.records.specs.Bodies.{zoneOf}
 use Rattle.records.proofs.bodies.zone_of.Statement.{statement}

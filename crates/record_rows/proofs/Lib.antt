@@ -1,0 +1,3 @@
+pub mod SignedBounds
+pub mod FrontRows
+pub mod Passes

@@ -1,0 +1,18 @@
+-- `power_beyond` meets its contract: a number of 32 bits keeps its value in 64.
+use mir.Facts.{toZ-ofZ, sfits-widen}
+use mir.Syntax.{w32, w64}
+use borrow.Author.Needs.{needs}
+use Rattle.record_rows.proofs.power_beyond.Statement.{statement}
+use Rattle.record_rows.proofs.power_beyond.Tie as tie
+
+cast-beyond : tie.Need-cast-beyond
+cast-beyond c = rw (toZ-ofZ {w = w32} {z = c .args .z} (c .fits .z)) (sfits-widen tt (c .fits .z))
+
+beyond-requires : tie.Need-beyond-requires
+beyond-requires c κs = search needs
+
+returns : tie.Need-returns
+returns c = rw (toZ-ofZ {w = w64} (cast-beyond (c .before)), toZ-ofZ {w = w32} {z = c .before .args .z} (c .before .fits .z)) at (c .beyond .ensures)
+
+pub power-beyond-spec : {M : Type 1} → statement M
+power-beyond-spec = tie.close (tie.spec cast-beyond beyond-requires returns)

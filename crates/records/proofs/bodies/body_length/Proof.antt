@@ -1,0 +1,33 @@
+-- `body_length` meets its contract.
+use mathlib.Core.Path.{refl, sym, ap}
+use Rattle.records.specs.Table.{KindRow, noKind, kindRows, total}
+use Rattle.records.proofs.ByKind.{another}
+use Rattle.records.proofs.bodies.body_length.Statement.{statement}
+use Rattle.records.proofs.bodies.body_length.Tie as tie
+
+returns : tie.Need-returns
+returns c = rw (c .match .keys1)
+
+returns-2 : tie.Need-returns-2
+returns-2 c = rw (c .match .keys2)
+
+returns-3 : tie.Need-returns-3
+returns-3 c = rw (c .match .keys3)
+
+returns-4 : tie.Need-returns-4
+returns-4 c = rw (c .match .keys4)
+
+returns-5 : tie.Need-returns-5
+returns-5 c = rw (c .match .keys5)
+
+returns-6 : tie.Need-returns-6
+returns-6 c = rw (c .match .keys6)
+
+returns-7 : tie.Need-returns-7
+returns-7 c =
+    let n = c .match .rest in
+    let k = c .before .args .kind in
+    sym (ap (λ (r : KindRow). total (r .fields)) (another noKind kindRows refl k (n .0 .0 .0 .0 .0 .1) (n .0 .0 .0 .0 .1) (n .0 .0 .0 .1) (n .0 .0 .1) (n .0 .1) (n .1)))
+
+pub body-length-spec : {M : Type 1} → statement M
+body-length-spec = tie.close (tie.spec returns returns-2 returns-3 returns-4 returns-5 returns-6 returns-7)
