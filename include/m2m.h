@@ -23,7 +23,7 @@
 extern "C" {
 #endif
 
-/* No listing has more bytes than this: a theorem of every accepted statement. */
+/* No listing of an accepted statement has more bytes than this. */
 #define M2M_LISTING_ROOM 288
 
 /*
