@@ -60,7 +60,7 @@ fn load_booking(s: &[u8], l: layout::Layout, i: usize) -> Booking
     requires { ⌜ (readSheet (now s) ≡ Accepted l) × (i < l .zones) ⌝ }
     ensures { λ r. ⌜ r ≡ bookingOf (contentOf (now (s .entry))) Loads i ⌝ }
 {
-    let z = sheet::zone_at(s, l, i);
+    let z = sheet_records::zone_at(s, l, i);
     Booking {
         number: i + 1,
         amount: z.load + z.losses,
@@ -71,7 +71,7 @@ fn output_booking(s: &[u8], l: layout::Layout, i: usize) -> Booking
     requires { ⌜ (readSheet (now s) ≡ Accepted l) × (i < l .units) ⌝ }
     ensures { λ r. ⌜ r ≡ bookingOf (contentOf (now (s .entry))) Outputs i ⌝ }
 {
-    let u = sheet::unit_at(s, l, i);
+    let u = sheet_records::unit_at(s, l, i);
     Booking {
         number: u.zone as usize,
         amount: u.output,
@@ -82,7 +82,7 @@ fn import_booking(s: &[u8], l: layout::Layout, i: usize) -> Booking
     requires { ⌜ (readSheet (now s) ≡ Accepted l) × (i < l .points) ⌝ }
     ensures { λ r. ⌜ r ≡ bookingOf (contentOf (now (s .entry))) Imports i ⌝ }
 {
-    let p = sheet::point_at(s, l, i);
+    let p = sheet_records::point_at(s, l, i);
     let place = p.place;
     Booking {
         number: number_of(place),
@@ -94,7 +94,7 @@ fn export_booking(s: &[u8], l: layout::Layout, i: usize) -> Booking
     requires { ⌜ (readSheet (now s) ≡ Accepted l) × (i < l .points) ⌝ }
     ensures { λ r. ⌜ r ≡ bookingOf (contentOf (now (s .entry))) Exports i ⌝ }
 {
-    let p = sheet::point_at(s, l, i);
+    let p = sheet_records::point_at(s, l, i);
     let place = p.place;
     Booking {
         number: number_of(place),

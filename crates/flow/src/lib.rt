@@ -94,7 +94,7 @@ fn over_par<'a>(
 {
     let gtl = generation_to_load(s, l, b, plus, minus, i + 1);
     let parallel = weighted_sums::weighted(s, l, plus, minus, POINT, NON_COMMON, i + 1);
-    let factor = sheet::factor_at(s, l, FLOWGATE, PAR, i);
+    let factor = sheet_records::factor_at(s, l, FLOWGATE, PAR, i);
     factor * (gtl.flow + parallel)
 }
 
@@ -110,7 +110,7 @@ fn carried_term<'a>(
     requires { ⌜ Ready (now s) l b (now plus) (now minus) × (i < l .pars) ⌝ }
     ensures { λ r. ⌜ r ≡ carriedTerm (contentOf (now (s .entry))) class i ⌝ }
 {
-    let p = sheet::par_at(s, l, i);
+    let p = sheet_records::par_at(s, l, i);
     if p.class != class {
         return 0;
     }
@@ -167,7 +167,7 @@ fn noncommon_redirect<'a>(
     requires { ⌜ Ready (now s) l b (now plus) (now minus) ⌝ }
     ensures { λ r. ⌜ r ≡ nonCommonRedirect (contentOf (now (s .entry))) ⌝ }
 {
-    let h = sheet::head_at(s, l);
+    let h = sheet_records::head_at(s, l);
     if h.monitoring_rto == NYISO {
         return 0;
     }

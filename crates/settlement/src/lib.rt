@@ -51,7 +51,7 @@ fn settle_flow<'a>(
     if f.row != 0 {
         return statement::refused(f.row);
     }
-    let h = sheet::head_at(s, l);
+    let h = sheet_records::head_at(s, l);
     let p = payment::pay(h, f.market, e);
     statement_of(h, f, p)
 }
@@ -75,7 +75,7 @@ fn settle_sheet(s: &[u8], l: layout::Layout, list: &[u8]) -> Statement
     requires { ⌜ readSheet (now s) ≡ Accepted l ⌝ }
     ensures { λ r. ⌜ r ≡ afterSheet (contentOf (now (s .entry))) (now (list .entry)) ⌝ }
 {
-    let h = sheet::head_at(s, l);
+    let h = sheet_records::head_at(s, l);
     let name = h.name;
     match entitlements::find(list, &name) {
         entitlements::Entitlement::Refused(row) => statement::refused(row),

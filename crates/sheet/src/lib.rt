@@ -1,4 +1,4 @@
-// The interval sheet: read once, and refused by rows 1 to 13 or accepted with its layout. An accepted sheet's records are then read where they stand.
+// The interval sheet: read once, and refused by rows 1 to 13 or accepted with its layout.
 ghost use mathlib.Core.Path.{_≡_};
 ghost use mathlib.Core.List.{List};
 ghost use Prim.Native.Nat.{ℕ, _+_, _*_, _≤_, _<_, _^_};
@@ -8,13 +8,11 @@ ghost use Rattle.fields.specs.Fields.{byteAt};
 ghost use Rattle.rows.specs.Rows.{row, cutShort};
 ghost use Rattle.records.specs.Table.{bodyLength, bodyIn};
 ghost use Rattle.records.specs.Bodies.{factorOf};
-ghost use Rattle.records.specs.Content.{Content, head, zone, unit, point, par, factorFor};
-ghost use Rattle.due_factors.specs.Due.{Asked};
+ghost use Rattle.records.specs.Content.{Content};
 ghost use Rattle.record_rows.specs.Rows.{factorRow, bodyRow, recordRow};
 ghost use Rattle.layout.specs.inner.Places.{size, counted, dueOf, Allowed, contentAt};
 ghost use Rattle.layout.specs.inner.Listed.{Listed};
-ghost use Rattle.sheet.specs.declared.Outcome.the-variants.{Accepted};
-ghost use Rattle.sheet.specs.Sheet.{readSheet, contentOf};
+ghost use Rattle.sheet.specs.Sheet.{readSheet};
 ghost use Rattle.sheet.specs.inner.Passed.{Passed};
 ghost use Rattle.sheet.specs.inner.GoodFactors.{keyOf, Good, lesser};
 use layout::Layout;
@@ -192,50 +190,4 @@ pub fn read(s: &[u8]) -> Outcome
         return Outcome::Refused(number, at);
     }
     Outcome::Accepted(l)
-}
-
-// The records of an accepted sheet, those of a kind counted from 0.
-pub fn head_at(s: &[u8], l: Layout) -> records::Head
-    requires { ⌜ readSheet (now s) ≡ Accepted l ⌝ }
-    ensures { λ r. ⌜ r ≡ head (contentOf (now (s .entry))) ⌝ }
-{
-    bodies::head_of(layout::body_at(s, l, records::HEAD_KIND, 0))
-}
-
-pub fn zone_at(s: &[u8], l: Layout, i: usize) -> records::Zone
-    requires { ⌜ (readSheet (now s) ≡ Accepted l) × (i < l .zones) ⌝ }
-    ensures { λ r. ⌜ r ≡ zone (contentOf (now (s .entry))) i ⌝ }
-{
-    bodies::zone_of(layout::body_at(s, l, records::ZONE_KIND, i))
-}
-
-pub fn unit_at(s: &[u8], l: Layout, i: usize) -> records::Unit
-    requires { ⌜ (readSheet (now s) ≡ Accepted l) × (i < l .units) ⌝ }
-    ensures { λ r. ⌜ r ≡ unit (contentOf (now (s .entry))) i ⌝ }
-{
-    bodies::unit_of(layout::body_at(s, l, records::UNIT_KIND, i))
-}
-
-pub fn point_at(s: &[u8], l: Layout, i: usize) -> records::Point
-    requires { ⌜ (readSheet (now s) ≡ Accepted l) × (i < l .points) ⌝ }
-    ensures { λ r. ⌜ r ≡ point (contentOf (now (s .entry))) i ⌝ }
-{
-    bodies::point_of(layout::body_at(s, l, records::POINT_KIND, i))
-}
-
-pub fn par_at(s: &[u8], l: Layout, i: usize) -> records::Par
-    requires { ⌜ (readSheet (now s) ≡ Accepted l) × (i < l .pars) ⌝ }
-    ensures { λ r. ⌜ r ≡ par (contentOf (now (s .entry))) i ⌝ }
-{
-    bodies::par_of(layout::body_at(s, l, records::PAR_KIND, i))
-}
-
-// The factor of the i-th of a subject on a target.
-pub fn factor_at(s: &[u8], l: Layout, target: usize, subject: u8, i: usize) -> i64
-    requires { ⌜ (readSheet (now s) ≡ Accepted l) × Asked (l .zones) (l .units) (l .points) (l .pars) target subject i ⌝ }
-    ensures { λ r. ⌜ r ≡ factorFor (contentOf (now (s .entry)) .factors) target subject (i + 1) ⌝ }
-{
-    let n = due_factors::place_of(counts_in(l), target, subject, i);
-    let f = bodies::factor_of(layout::body_at(s, l, FACTOR_KIND, n));
-    f.factor as i64
 }

@@ -38,7 +38,7 @@ fn unit_power(s: &[u8], l: layout::Layout, class: u8, i: usize) -> i64
     requires { ⌜ (readSheet (now s) ≡ Accepted l) × (i < l .units) ⌝ }
     ensures { λ r. ⌜ r ≡ powerOf (contentOf (now (s .entry))) unitSubject class i ⌝ }
 {
-    let u = sheet::unit_at(s, l, i);
+    let u = sheet_records::unit_at(s, l, i);
     u.output as i64
 }
 
@@ -46,7 +46,7 @@ fn point_power(s: &[u8], l: layout::Layout, class: u8, i: usize) -> i64
     requires { ⌜ (readSheet (now s) ≡ Accepted l) × (i < l .points) ⌝ }
     ensures { λ r. ⌜ r ≡ powerOf (contentOf (now (s .entry))) pointSubject class i ⌝ }
 {
-    let p = sheet::point_at(s, l, i);
+    let p = sheet_records::point_at(s, l, i);
     gap_in(p.sort, class, p.import as i64, p.export as i64)
 }
 
@@ -54,7 +54,7 @@ fn par_power(s: &[u8], l: layout::Layout, class: u8, i: usize) -> i64
     requires { ⌜ (readSheet (now s) ≡ Accepted l) × (i < l .pars) ⌝ }
     ensures { λ r. ⌜ r ≡ powerOf (contentOf (now (s .entry))) parSubject class i ⌝ }
 {
-    let p = sheet::par_at(s, l, i);
+    let p = sheet_records::par_at(s, l, i);
     gap_in(p.class, class, p.actual as i64, p.target as i64)
 }
 
@@ -96,7 +96,7 @@ fn term_of<'a>(
     ensures { λ r. ⌜ r ≡ weightedTerm (contentOf (now (s .entry))) subject class target i ⌝ }
 {
     let power = power_of(s, l, plus, minus, subject, class, i);
-    let factor = sheet::factor_at(s, l, target, subject, i);
+    let factor = sheet_records::factor_at(s, l, target, subject, i);
     power * factor
 }
 

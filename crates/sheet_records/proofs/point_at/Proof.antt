@@ -1,8 +1,8 @@
 -- `point_at` meets its contract.
 use native.Mathlib.Omega.{arith}
 use Rattle.sheet.proofs.Accepted.{extent-is, point-is}
-use Rattle.sheet.proofs.point_at.Statement.{statement}
-use Rattle.sheet.proofs.point_at.Tie as tie
+use Rattle.sheet_records.proofs.point_at.Statement.{statement}
+use Rattle.sheet_records.proofs.point_at.Tie as tie
 
 body-at-requires : tie.Need-body-at-requires
 body-at-requires c κs =

@@ -10,9 +10,9 @@ use Rattle.due_factors.specs.Due.{key}
 use Rattle.due_factors.specs.inner.Places.{placeIn}
 use Rattle.due_factors.proofs.KeyPlaces.{place-below, place-holds}
 use Rattle.layout.specs.inner.Places.{countsIn, dueOf}
 use Rattle.sheet.proofs.Accepted.{extent-is, allowed, all-due, factor-is, factor-there}
-use Rattle.sheet.proofs.factor_at.Statement.{statement}
-use Rattle.sheet.proofs.factor_at.Tie as tie
+use Rattle.sheet_records.proofs.factor_at.Statement.{statement}
+use Rattle.sheet_records.proofs.factor_at.Tie as tie
 
 -- the sheet has the factor that is due there
 place-is : (c : tie.After-place-of) →

@@ -1,8 +1,8 @@
 -- `par_at` meets its contract.
 use native.Mathlib.Omega.{arith}
 use Rattle.sheet.proofs.Accepted.{extent-is, par-is}
-use Rattle.sheet.proofs.par_at.Statement.{statement}
-use Rattle.sheet.proofs.par_at.Tie as tie
+use Rattle.sheet_records.proofs.par_at.Statement.{statement}
+use Rattle.sheet_records.proofs.par_at.Tie as tie
 
 body-at-requires : tie.Need-body-at-requires
 body-at-requires c κs =

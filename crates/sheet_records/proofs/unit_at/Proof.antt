@@ -1,8 +1,8 @@
 -- `unit_at` meets its contract.
 use native.Mathlib.Omega.{arith}
 use Rattle.sheet.proofs.Accepted.{extent-is, unit-is}
-use Rattle.sheet.proofs.unit_at.Statement.{statement}
-use Rattle.sheet.proofs.unit_at.Tie as tie
+use Rattle.sheet_records.proofs.unit_at.Statement.{statement}
+use Rattle.sheet_records.proofs.unit_at.Tie as tie
 
 body-at-requires : tie.Need-body-at-requires
 body-at-requires c κs =
