@@ -5,6 +5,7 @@ pub mod crafted;
 pub mod interval;
 pub mod library;
 pub mod mismatch;
+pub mod mistakes;
 pub mod questions;
 pub mod run;
 pub mod sides;

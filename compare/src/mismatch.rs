@@ -27,14 +27,19 @@ impl Mismatch {
     }
 }
 
+/// An input that can be shown.
+pub trait Shown {
+    /// How the input came about.
+    fn origin(&self) -> String;
+
+    /// The input as readable text.
+    fn text(&self) -> String;
+}
+
 /// A mismatch with the input that shows it.
-#[derive(Debug)]
 pub struct Trouble {
     pub mismatch: Mismatch,
-    /// How the input came about.
-    pub origin: String,
-    /// The input as readable text.
-    pub input: String,
+    pub input: Option<Box<dyn Shown>>,
 }
 
 impl Trouble {
@@ -42,8 +47,7 @@ impl Trouble {
     pub fn outside(what: &str, fault: impl Display) -> Box<Self> {
         Box::new(Trouble {
             mismatch: Mismatch::of(what, "", fault),
-            origin: String::new(),
-            input: String::new(),
+            input: None,
         })
     }
 }
@@ -51,8 +55,9 @@ impl Trouble {
 impl Display for Trouble {
     fn fmt(&self, f: &mut std::fmt::Formatter) -> std::fmt::Result {
         writeln!(f, "MISMATCH: {}", self.mismatch.what)?;
-        writeln!(f, "# {}", self.origin)?;
-        writeln!(f, "{}", self.input)?;
+        if let Some(input) = &self.input {
+            writeln!(f, "# {}\n{}", input.origin(), input.text())?;
+        }
         write!(f, "{}", self.mismatch.answers.join("\n"))
     }
 }

@@ -14,12 +14,14 @@ pub type Outcome = Result<(), Box<Trouble>>;
 pub trait Question {
     fn name(&self) -> &'static str;
 
-    /// The inputs that every run makes: case files, sweeps and inputs made for a
-    /// landmark.
+    /// The inputs that every run makes: case files, and inputs made for a landmark.
     fn directed(&mut self, sides: &Sides, seed: u64) -> Outcome;
 
     /// The k-th input of a seed.
     fn seeded(&mut self, sides: &Sides, seed: u64, k: u64) -> Outcome;
+
+    /// Long rows of inputs that are nearly alike.
+    fn sweeps(&mut self, sides: &Sides, seed: u64) -> Outcome;
 
     /// The same question to a program.
     fn program(&mut self, program: &Path, seed: u64) -> Outcome;

@@ -53,6 +53,7 @@ pub fn run(plan: &Plan, sides: &Sides, questions: &mut [Box<dyn Question>]) -> O
         for k in 0..plan.count {
             question.seeded(sides, plan.seed, k)?;
         }
+        question.sweeps(sides, plan.seed)?;
         if let Some(program) = &plan.program {
             question.program(Path::new(program), plan.seed)?;
         }

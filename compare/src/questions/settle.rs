@@ -11,17 +11,19 @@ mod one_record;
 mod program;
 
 use std::path::Path;
+use std::rc::Rc;
 
 use second::Refusal;
 
 use crate::chance::Chance;
-use crate::mismatch::{Mismatch, Trouble};
+use crate::mismatch::{Mismatch, Shown, Trouble};
 use crate::questions::{Outcome, Question};
 use crate::sides::{Side, Sides};
 use crate::tally::Tally;
 use crate::text;
 use cases::Case;
 use check::Answer;
+use directed::Directed;
 use expected::Expected;
 use program::Program;
 
@@ -57,19 +59,24 @@ impl Input {
         second::settle(&self.sheet, &self.list)
     }
 
-    /// The input as a case file that expects nothing yet.
+    fn trouble(&self, mismatch: Mismatch) -> Box<Trouble> {
+        Box::new(Trouble {
+            mismatch,
+            input: Some(Box::new(self.clone())),
+        })
+    }
+}
+
+impl Shown for Input {
+    fn origin(&self) -> String {
+        self.origin.clone()
+    }
+
+    /// A case file that expects nothing yet.
     fn text(&self) -> String {
         let (sheet, list) = (text::sheet(&self.sheet), text::entitlements(&self.list));
         let buffer = check::room(self, &self.answer());
         format!("sheet\n{sheet}entitlements\n{list}buffer {buffer}\n")
-    }
-
-    fn trouble(&self, mismatch: Mismatch) -> Box<Trouble> {
-        Box::new(Trouble {
-            mismatch,
-            origin: self.origin.clone(),
-            input: self.text(),
-        })
     }
 }
 
@@ -82,7 +89,9 @@ const PAIRS: usize = 2;
 const PROGRAM_INPUTS: u64 = 400;
 
 pub struct Settle {
-    cases: Vec<Case>,
+    cases: Rc<[Case]>,
+    /// Inputs made for a landmark, with the seed that they were made of.
+    made: Option<(u64, Rc<[Directed]>)>,
     tally: Tally,
 }
 
@@ -96,12 +105,20 @@ impl Settle {
         let pairs = one_record::pairs();
         let pairs = pairs.iter().map(one_record::Pair::to_string);
         Ok(Settle {
-            cases: cases::load(folder)?,
+            cases: cases::load(folder)?.into(),
+            made: None,
             tally: Tally::default()
                 .with("answers", answers.collect(), true)
                 .with("landmarks", landmarks::names(), true)
                 .with("pairs of rows on one record", pairs.collect(), false),
         })
+    }
+
+    fn directed_inputs(&mut self, seed: u64) -> Rc<[Directed]> {
+        let made = self.made.take().filter(|(of, _)| *of == seed);
+        let (_, inputs) = made.unwrap_or_else(|| (seed, directed::all(seed).into()));
+        self.made = Some((seed, Rc::clone(&inputs)));
+        inputs
     }
 
     /// Asks both sides and counts what was met.
@@ -130,8 +147,7 @@ impl Settle {
     }
 
     fn case_files(&mut self, sides: &Sides) -> Outcome {
-        let cases = std::mem::take(&mut self.cases);
-        for case in &cases {
+        for case in Rc::clone(&self.cases).iter() {
             self.expect(sides, &case.input, &case.expected)?;
             if case.every_truncation {
                 self.every_truncation(sides, &case.input)?;
@@ -140,7 +156,6 @@ impl Settle {
                 self.every_buffer(sides, &case.input)?;
             }
         }
-        self.cases = cases;
         Ok(())
     }
 
@@ -194,15 +209,10 @@ impl Question for Settle {
 
     fn directed(&mut self, sides: &Sides, seed: u64) -> Outcome {
         self.case_files(sides)?;
-        for (input, expected) in directed::all(seed) {
-            self.expect(sides, &input, &expected)?;
-        }
         self.rows_on_one_record(sides, seed)?;
         self.rows_anywhere(sides, seed)?;
-        let longest = inputs::longest(&mut Chance::of(seed, u64::MAX));
-        for input in [&directed::sheet_s(), &longest] {
-            self.every_truncation(sides, input)?;
-            self.every_buffer(sides, input)?;
+        for (input, expected) in self.directed_inputs(seed).iter() {
+            self.expect(sides, input, expected)?;
         }
         Ok(())
     }
@@ -213,12 +223,22 @@ impl Question for Settle {
         self.ask(sides, &input)
     }
 
+    fn sweeps(&mut self, sides: &Sides, seed: u64) -> Outcome {
+        let longest = inputs::longest(&mut Chance::of(seed, u64::MAX));
+        for input in [&directed::sheet_s(), &longest] {
+            self.every_truncation(sides, input)?;
+            self.every_buffer(sides, input)?;
+        }
+        Ok(())
+    }
+
     fn program(&mut self, path: &Path, seed: u64) -> Outcome {
         let what = format!("program {}", path.display());
         let program = Program::at(path).map_err(|error| Trouble::outside(&what, error))?;
         let mut runs = program.check_absent_files()?;
+        let directed = self.directed_inputs(seed);
         let cases = self.cases.iter().map(|case| case.input.clone());
-        let directed = directed::all(seed).into_iter().map(|(input, _)| input);
+        let directed = directed.iter().map(|(input, _)| input.clone());
         let seeded = (0..PROGRAM_INPUTS).map(|k| inputs::input(seed, k));
         let inputs = cases.chain(directed).chain(seeded);
         for input in inputs.chain(program::long_files()) {

@@ -6,8 +6,8 @@ use mathlib.Core.List.{List, [], _∷_}
 use native.Mathlib.Nat.{zero-add}
 use native.Mathlib.Numerals.{add-one}
 use native.Mathlib.Omega.{arith}
-use lib.ListN.{length, take, drop, getD, length-drop, drop-of-length-le}
-use lib.Seq.{drop-cons, drop-drop, take-all, take-length}
+use lib.ListN.{length, drop, getD, length-drop, drop-of-length-le}
+use lib.Seq.{drop-cons, drop-drop, take-all}
 use Rattle.names.specs.Names.{nameAt, sameList}
 use Rattle.name_index.specs.inner.Index.{namesAt}
 use Rattle.names.proofs.SameNames.{same-uneven}
@@ -128,7 +128,3 @@ look-other-length s name h = look-uneven name (pass-from [] 0 s h)
 
 pub whole-name : (name : List ℕ) → length name ≡ 16 → nameAt name 0 ≡ name
 whole-name name e = take-all 16 name (omega arith)
-
--- the part `&s[a..]`
-pub tail-part : (s : List ℕ) (a : ℕ) → take (length s - a) (drop a s) ≡ drop a s
-tail-part s a = rw (← length-drop a s, take-length (drop a s))

@@ -1,5 +1,5 @@
 -- Equal fields have equal bytes, and the other way.
-use Prim.Native.Nat.{ℕ, suc, _+_, _*_, _-_, _/_, _<_, _≤_}
+use Prim.Native.Nat.{ℕ, _+_, _*_, _-_, _/_, _<_, _≤_}
 use mathlib.Core.Path.{_≡_, sym, ap, ap₂, _∙_}
 use native.Mathlib.Nat.{add-assoc, div-eq-of-lt-le}
 use mathlib.Core.List.{List}

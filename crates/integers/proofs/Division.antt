@@ -1,5 +1,5 @@
 -- Division toward zero by a positive number: quotient and remainder, and what they fit.
-use mathlib.Core.Path.{_≡_, refl, ap}
+use mathlib.Core.Path.{_≡_, ap}
 use Prim.Native.Nat.{ℕ, zero, suc, _/_, _<_, _≤_}
 use native.Mathlib.Nat.{div-add-mod', mod-lt, div-le-self}
 use native.Mathlib.Omega.{arith}

@@ -1,12 +1,12 @@
 -- Linear statements over the integers, taken to the naturals by `simp`.
-use mathlib.Core.Path.{_≡_, refl, sym, ap, _∙_, subst}
+use mathlib.Core.Path.{_≡_, refl, _∙_}
 use mathlib.Core.Logic.{_↔_}
-use Prim.Native.Nat.{ℕ, zero, suc, _+_, _*_, _-_, _<_, _≤_}
+use Prim.Native.Nat.{ℕ, suc, _+_, _*_, _-_, _<_, _≤_}
 use native.Mathlib.Omega.{arith}
-use lib.IntN.{ℤ, pos, negsuc, negℤ, negℤ-negℤ, negℤ-+ℤ, _+ℤ_, _-ℤ_, _*ℤ_, *ℤ-comm, +ℤ-comm, +ℤ-assoc}
+use lib.IntN.{ℤ, pos, negsuc, negℤ, negℤ-negℤ, negℤ-+ℤ, _+ℤ_, _*ℤ_, *ℤ-comm, +ℤ-assoc}
 use mir.Syntax.{w64}
 use mir.Val.{SFits}
-use lib.Signed.{_≤ℤ_, _<ℤ_, leZ, ltZ}
+use lib.Signed.{_≤ℤ_, _<ℤ_}
 use Rattle.integers.proofs.Parts.{up, dn, up-pos, dn-pos, up-neg, dn-neg, up-mul, dn-mul, add-law, eq-of, eq-to, le-of, le-to, lt-of, lt-to}
 use Rattle.integers.proofs.Ring.{*-assoc, *-distl, *-distr, neg-mull, neg-mulr, *-left-comm}
 

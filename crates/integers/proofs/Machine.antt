@@ -7,10 +7,10 @@ use Prim.Native.Nat.{ℕ, _+_, _*_, _^_, _<_, _≤_}
 use native.Mathlib.Nat.{le-trans, lt-of-le-of-lt, add-le-add, mul-le-mul}
 use native.Mathlib.Omega.{arith}
 use borrow.Author.Tests.{ltb-true}
-use lib.Dec.{T, ltb, ltb→lt}
+use lib.Dec.{T}
 use lib.IntN.{ℤ, pos, negsuc, natAbs, _+ℤ_, _-ℤ_, _*ℤ_}
 use lib.Signed.{_≤ℤ_, _<ℤ_, leZ, ltZ, mag}
-use mir.Syntax.{Width, w16, w32, w64}
+use mir.Syntax.{Width, w64}
 use mir.Val.{SFits, ofZ, toZ, hbits}
 use mir.Facts.{toZ-ofZ, toZ-pos}
 use Rattle.integers.proofs.Linear.{zarith}

@@ -1,13 +1,13 @@
 -- The order of the integers, with products and absolute values.
-use mathlib.Core.Path.{_≡_, refl, sym, ap, _∙_, subst}
+use mathlib.Core.Path.{_≡_}
 use mathlib.Core.Logic.{_↔_, _⊎_, inl, inr}
-use Prim.Native.Nat.{ℕ, zero, suc, _+_, _*_, _-_, _<_, _≤_}
+use Prim.Native.Nat.{ℕ, _+_, _*_, _-_, _<_, _≤_}
 use native.Mathlib.Nat.{mul-le-mul-left}
 use native.Mathlib.Decide.{decLe}
 use native.Mathlib.Omega.{arith}
-use lib.IntN.{ℤ, pos, negsuc, negℤ, natAbs, _+ℤ_, _-ℤ_, _*ℤ_}
+use lib.IntN.{ℤ, pos, negsuc, negℤ, natAbs, _+ℤ_, _*ℤ_}
 use lib.Signed.{_≤ℤ_, _<ℤ_}
-use Rattle.integers.proofs.Parts.{up, dn, up-mul, dn-mul, up-neg, dn-neg, le-of, le-to, lt-of, lt-to, eq-of, eq-to}
+use Rattle.integers.proofs.Parts.{up, dn, up-mul, dn-mul, up-neg, dn-neg, le-of, le-to, lt-of, eq-of}
 use Rattle.integers.proofs.Linear.{zin, zout, zarith}
 
 pub ≤-trans : {x y z : ℤ} → x ≤ℤ y → y ≤ℤ z → x ≤ℤ z

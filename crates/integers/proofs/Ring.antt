@@ -1,10 +1,9 @@
 -- The ring laws of the integers.
-use mathlib.Core.Path.{_≡_, refl, sym, ap, _∙_, subst}
-use Prim.Native.Nat.{ℕ, zero, suc, _+_, _*_, _-_, _<_, _≤_}
+use mathlib.Core.Path.{_≡_, ap, _∙_}
+use Prim.Native.Nat.{_+_, _*_, _-_}
 use native.Mathlib.Omega.{arith}
-use lib.IntN.{ℤ, pos, negsuc, negℤ, _+ℤ_, _-ℤ_, _*ℤ_, *ℤ-comm, +ℤ-comm, +ℤ-assoc}
-use lib.Signed.{_≤ℤ_, _<ℤ_, leZ, ltZ}
-use Rattle.integers.proofs.Parts.{up, dn, up-neg, dn-neg, up-mul, dn-mul, add-law, eq-of, eq-to, le-of, le-to, lt-of, lt-to}
+use lib.IntN.{ℤ, negℤ, _+ℤ_, _*ℤ_, *ℤ-comm}
+use Rattle.integers.proofs.Parts.{up, dn, up-neg, dn-neg, up-mul, dn-mul, add-law, eq-of}
 
 pub *-assoc : (x y z : ℤ) → (x *ℤ y) *ℤ z ≡ x *ℤ (y *ℤ z)
 *-assoc x y z = eq-of _ _ (simp (up-mul, dn-mul) (omega arith))

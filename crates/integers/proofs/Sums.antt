@@ -8,14 +8,11 @@ use native.Mathlib.Numerals.{add-one}
 use native.Mathlib.Omega.{arith}
 use lib.IntN.{ℤ, pos, natAbs, _+ℤ_, +ℤ-idl, +ℤ-idr}
 use lib.Signed.{_≤ℤ_}
-use mir.Syntax.{w64}
-use mir.Val.{SFits, toZ, ofZ}
-use mir.Facts.{toZ-ofZ}
 use Rattle.integers.specs.Sum.{sumTo, allTo}
 use Rattle.integers.proofs.Linear.{zarith}
 use Rattle.integers.proofs.Tactic.{zi, zo}
 use Rattle.integers.proofs.Absolute.{abs-add}
-use Rattle.integers.proofs.Machine.{abs-fits, Num, Op, rd, op, num-is}
+use Rattle.integers.proofs.Machine.{Op, rd, op, num-is}
 
 pub sum-suc : (f : ℕ → ℤ) (n : ℕ) → sumTo f (n + 1) ≡ sumTo f n +ℤ f n
 unfolding sumTo

@@ -2,8 +2,7 @@
 -- The hypotheses stand in the goal, as arrows: bind the numbers alone. A hypothesis times a factor is a hypothesis of its own (`le-mul`, `le-mul-abs`, `ap`).
 use mathlib.Core.Logic.{_↔_}
 use Prim.Native.Nat.{ℕ, _+_, _*_, _<_, _≤_}
-use native.Mathlib.Omega.{arith}
-use lib.IntN.{ℤ, pos, negsuc, negℤ, natAbs, _+ℤ_, _-ℤ_, _*ℤ_}
+use lib.IntN.{ℤ, pos, negℤ, natAbs, _+ℤ_, _*ℤ_}
 use lib.Signed.{_≤ℤ_, _<ℤ_}
 use Rattle.integers.proofs.Linear.{zin, zout, zarith}
 use Rattle.integers.proofs.Order.{abs-le, le-mul}

@@ -39,7 +39,7 @@ fn parse(lines: &[String]) -> Option<Case> {
     for line in lines {
         let (word, rest) = line.split_once(' ').unwrap_or((line, ""));
         match word {
-            "case" => case.input.origin = rest.to_string(),
+            "case" => case.input.origin = below_root(rest),
             "sheet" => case.input.sheet = from_hex(rest)?,
             "entitlements" => case.input.list = from_hex(rest)?,
             "buffer" => case.input.room = Room::Length(rest.parse().ok()?),
@@ -50,6 +50,12 @@ fn parse(lines: &[String]) -> Option<Case> {
         }
     }
     Some(case)
+}
+
+/// A case file's path, below the repository's root where it stands there.
+fn below_root(path: &str) -> String {
+    let root = format!("{}/", text::root().display());
+    path.strip_prefix(&root).unwrap_or(path).to_string()
 }
 
 fn expected(text: &str) -> Option<Expected> {
@@ -65,6 +71,7 @@ fn expected(text: &str) -> Option<Expected> {
 #[cfg(test)]
 mod tests {
     use super::*;
+    use crate::mismatch::Shown;
     use crate::questions::settle::inputs;
     use crate::sides::Second;
 

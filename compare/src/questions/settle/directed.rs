@@ -27,9 +27,9 @@ pub fn all(seed: u64) -> Vec<Directed> {
     all.extend(zone_numbers(chance));
     all.extend(last_zone(chance));
     all.extend(sums(chance));
-    all.extend(buckets(chance));
     all.extend(greatest::all(chance));
     all.extend(rounding::all(chance));
+    all.extend(buckets(chance));
     all
 }
 

@@ -19,6 +19,18 @@ enum Supply {
     Unreadable,
 }
 
+const SHEET_FILE: &str = "sheet.bin";
+const LIST_FILE: &str = "entitle.bin";
+
+/// What the program tells of a file on standard error.
+fn told(file: &str, supply: Supply) -> String {
+    match supply {
+        Supply::Written => String::new(),
+        Supply::Missing => format!("settle: {file}: No such file or directory\n"),
+        Supply::Unreadable => format!("settle: {file}: Is a directory\n"),
+    }
+}
+
 pub struct Program {
     path: PathBuf,
     folder: PathBuf,
@@ -71,9 +83,11 @@ impl Program {
         let expected = printed(&settle(&sheet, &list));
         let run = self.run(input, supplied);
         let found = run.map_err(|error| Mismatch::of("run of the program", "", error))?;
+        let [sheet, list] = supplied;
+        let told = told(SHEET_FILE, sheet) + &told(LIST_FILE, list);
         for (what, expected, found) in [
             ("printed text", &expected[..], &found.stdout),
-            ("standard error", b"", &found.stderr),
+            ("standard error", told.as_bytes(), &found.stderr),
         ] {
             if expected != found {
                 let shown = [expected, found].map(|text| text.escape_ascii().to_string());
@@ -88,8 +102,8 @@ impl Program {
 
     fn run(&self, input: &Input, supplied: [Supply; 2]) -> io::Result<Output> {
         for (file, bytes, supply) in [
-            ("sheet.bin", &input.sheet, supplied[0]),
-            ("entitle.bin", &input.list, supplied[1]),
+            (SHEET_FILE, &input.sheet, supplied[0]),
+            (LIST_FILE, &input.list, supplied[1]),
         ] {
             let path = self.folder.join(file);
             let _ = fs::remove_dir(&path).or_else(|_| fs::remove_file(&path));
@@ -99,7 +113,10 @@ impl Program {
                 Supply::Unreadable => fs::create_dir(&path)?,
             }
         }
-        Command::new(&self.path).current_dir(&self.folder).output()
+        Command::new(&self.path)
+            .env("LC_ALL", "C")
+            .current_dir(&self.folder)
+            .output()
     }
 }
 

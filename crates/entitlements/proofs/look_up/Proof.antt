@@ -10,7 +10,8 @@ use borrow.Author.Needs.{needs}
 use lib.ListN.{length, drop, length-drop}
 use Rattle.names.proofs.SameNames.{words-are}
 use Rattle.names.specs.Names.{nameAt, sameList}
-use Rattle.entitlements.proofs.ByRecord.{Whole, passed-whole, whole-next, whole-name, look-other-length, look-here, look-on, look-end, tail-part}
+use Rattle.fields.proofs.Lists.{tail-is}
+use Rattle.entitlements.proofs.ByRecord.{Whole, passed-whole, whole-next, whole-name, look-other-length, look-here, look-on, look-end}
 use Rattle.entitlements.specs.declared.Entitlement.the-variants.{Found}
 use Rattle.entitlements.specs.Entitlements.{entriesOf, lookUp}
 use Rattle.entitlements.proofs.look_up.Statement.{statement}
@@ -73,7 +74,7 @@ value-of-requires c κs =
     let l = p .before .loop in
     let s = now (p .before .before .before .before .before .before .before .args .entries) in
     let w = whole-next s (l .at) (p .loop-test .taken) (l .inv .1) .0 in
-    rw (tail-part s (l .at + 1), length-drop (l .at + 1) s) (omega arith)
+    rw (tail-is s (l .at + 1), length-drop (l .at + 1) s) (omega arith)
 
 returns-2 : tie.Need-returns-2 Inv-loop μ-loop
 returns-2 c =
@@ -82,7 +83,7 @@ returns-2 c =
     let a = p .before .before .before .before .before .before .before .args in
     let q = sym (same-is (c .before .before .before)) ∙ c .before .before .if2 .taken in
     let f : SFits w64 (c .value-of .result) = record { sfits = c .value-of .ok } in
-    let v = rw (tail-part (now (a .entries)) (l .at + 1)) at (c .value-of .ensures) in
+    let v = rw (tail-is (now (a .entries)) (l .at + 1)) at (c .value-of .ensures) in
     ap Found (toZ-ofZ f ∙ v) ∙ sym (look-here (now (a .entries)) (l .at) (p .loop-test .taken) _ q) ∙ l .inv .2
 
 add-at : tie.Need-add-at Inv-loop μ-loop

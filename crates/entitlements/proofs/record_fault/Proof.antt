@@ -8,7 +8,8 @@ use borrow.Author.Needs.{needs}
 use lib.ListN.{length, drop, length-drop}
 use Rattle.names.specs.Names.{seenBefore}
 use Rattle.name_index.proofs.Table.{next-indexed}
-use Rattle.entitlements.proofs.ByRecord.{first-count, tail-part}
+use Rattle.fields.proofs.Lists.{tail-is}
+use Rattle.entitlements.proofs.ByRecord.{first-count}
 use Rattle.entitlements.proofs.RecordFault.{fault-cut, fault-full, fault-twice, fault-new}
 use Rattle.entitlements.specs.inner.Steps.{runOf, firstNames}
 use Rattle.entitlements.specs.Entitlements.{mostRecords, entryOf}
@@ -79,7 +80,7 @@ returns-4 c =
     let r = g .pre .2 .room (a .n) (q .if2 .left) (omega arith) in
     let w : 20 ≤ length (drop (a .at + 1) s) = rw (length-drop (a .at + 1) s) (q .before .if1 .left) in
     let f : length (firstNames s (a .n)) < mostRecords = rw (first-count s (a .n)) (q .if2 .left) in
-    let e = rw (tail-part s (a .at + 1)) at (c .entry-fault .ensures) in
+    let e = rw (tail-is s (a .at + 1)) at (c .entry-fault .ensures) in
     record { told = rw (fault-new _ _ _ w f (sym (seen-is x) ∙ t .if3 .left), e); added = λ u. rw (x .seen-before .ensures .1) (next-indexed s (runOf (a .mask) (a .n)) (now (a .table)) (g .pre .3) (omega (arith, r))) }
 
 pub record-fault-spec : {M : Type 1} → statement M

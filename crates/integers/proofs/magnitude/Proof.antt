@@ -5,7 +5,6 @@ use native.Mathlib.Omega.{arith}
 use native.Mathlib.Numerals.{add-one}
 use borrow.Author.Tests.{le-ltb}
 use lib.IntN.{ℤ, pos, negsuc, natAbs, _-ℤ_}
-use mir.Val.{toZ, ofZ}
 use mir.Syntax.{w64}
 use mir.Facts.{toZ-ofZ, toZ-pos}
 use Rattle.integers.proofs.Machine.{rd, negative, not-negative}

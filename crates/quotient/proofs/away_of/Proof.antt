@@ -1,5 +1,5 @@
 -- `away_of` meets its contract.
-use mathlib.Core.Path.{refl, sym, ap, _∙_}
+use mathlib.Core.Path.{sym, ap}
 use Rattle.integers.proofs.Machine.{negative, not-negative}
 use Rattle.quotient.specs.inner.Step.{away}
 use Rattle.quotient.proofs.away_of.Statement.{statement}

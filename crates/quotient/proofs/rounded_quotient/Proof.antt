@@ -3,7 +3,7 @@ use mathlib.Core.Path.{_≡_, sym}
 use Prim.Native.Nat.{_*_, _<_, _≤_, _^_}
 use native.Mathlib.Nat.{mul-le-mul-right}
 use native.Mathlib.Omega.{arith}
-use lib.IntN.{ℤ, pos, negℤ, natAbs, _+ℤ_, _-ℤ_, _*ℤ_}
+use lib.IntN.{ℤ, pos, natAbs, _+ℤ_, _-ℤ_, _*ℤ_}
 use lib.Signed.{_≤ℤ_, _<ℤ_, quotZ, remZ}
 use mir.Facts.{toZ-ofZ}
 use mir.Syntax.{w64}
@@ -14,7 +14,7 @@ use Rattle.integers.proofs.Tactic.{zi, zo}
 use Rattle.integers.proofs.Absolute.{abs-mul}
 use Rattle.integers.proofs.Division.{abs-rem, fit-quot, fit-rem}
 use Rattle.integers.proofs.Machine.{abs-fits, ofZ-pos}
-use Rattle.quotient.specs.Rounded.{quotient, remainder}
+use Rattle.quotient.specs.Rounded.{remainder}
 use Rattle.quotient.specs.inner.Step.{step}
 use Rattle.quotient.proofs.Rounded.{quotient-rounded}
 use Rattle.quotient.proofs.Laws.{near, quotient-fits}

@@ -72,7 +72,7 @@ fn much_rounded(chance: &mut Chance, common: usize) -> Interval {
 /// Draws a target's factors until its rounding is the largest of many; its error.
 fn worst(chance: &mut Chance, interval: &mut Interval, target: usize) -> Fraction {
     let mut worst = Fraction::whole(0);
-    for _ in 0..60 {
+    for _ in 0..40 {
         let before = interval.clone();
         let factors = match target {
             FLOWGATE => &mut interval.flowgate,
