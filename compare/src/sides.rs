@@ -170,22 +170,14 @@ macro_rules! reference {
                 name: &[u8; 16],
             ) -> $crate::sides::EntitlementAnswer {
                 // A name that is not well formed stands in no list that passes row 14.
-                let other = || $second::Name::of([b'?'; 16]);
+                let other = $second::Name::of([b'?'; 16]).expect("it is well formed");
                 let sought = $second::Name::of(*name);
-                let is_name = sought.is_some();
-                let answer = sought.or_else(other).map(|it| {
-                    $second::entitlement::entitlement(list, it).map_err($second::Refusal::number)
-                });
-                match answer {
-                    Some(Ok(value)) if is_name => $crate::sides::EntitlementAnswer {
-                        refusal: 0,
-                        value: value.0,
-                    },
-                    Some(Err(refusal)) => $crate::sides::EntitlementAnswer { refusal, value: 0 },
-                    _ => $crate::sides::EntitlementAnswer {
-                        refusal: $second::Refusal::NoEntitlement.number(),
-                        value: 0,
-                    },
+                let missing = Err($second::Refusal::NoEntitlement);
+                let answer = $second::entitlement::entitlement(list, sought.unwrap_or(other))
+                    .and_then(|value| sought.map_or(missing, |_| Ok(value)));
+                $crate::sides::EntitlementAnswer {
+                    refusal: answer.map_or_else($second::Refusal::number, |_| 0),
+                    value: answer.map_or(0, |value| value.0),
                 }
             }
         }

@@ -1,11 +1,9 @@
 //! The entitlement list: rows 14 and 15.
 
-use crate::layout::{ENTITLEMENT, ENTITLEMENT_BODY, ENTITLEMENTS, Fields, MOST_ENTITLEMENTS};
+use crate::layout::{ENTITLEMENT, ENTITLEMENT_RECORD, ENTITLEMENTS, Fields, MOST_ENTITLEMENTS};
 use crate::names::{Name, NamesSeen};
 use crate::refusal::Refusal;
 use crate::units::Power;
-
-const RECORD: usize = 1 + ENTITLEMENT_BODY;
 
 /// The entitlement of the named flowgate.
 pub fn entitlement(list: &[u8], flowgate: Name) -> Result<Power, Refusal> {
@@ -28,7 +26,7 @@ pub fn entitlement(list: &[u8], flowgate: Name) -> Result<Power, Refusal> {
 }
 
 /// Name and value of a record that is well formed by itself.
-fn entry(record: &[u8; RECORD]) -> Option<(Name, Power)> {
+fn entry(record: &[u8; ENTITLEMENT_RECORD]) -> Option<(Name, Power)> {
     let mut fields = Fields::of(record);
     let kind = fields.byte();
     let name = Name::of(fields.bytes())?;

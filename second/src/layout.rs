@@ -1,6 +1,6 @@
 //! The records of document 01: kinds, body lengths, counts and ranges.
 
-use std::ops::RangeInclusive;
+use std::ops::{Range, RangeInclusive};
 
 /// The kind byte of a sheet's record.
 #[derive(Clone, Copy, Debug, PartialEq, Eq, PartialOrd, Ord)]
@@ -40,6 +40,9 @@ impl Kind {
     }
 }
 
+/// Where the name stands in a record that has one, kind byte included.
+pub const NAME: Range<usize> = 1..17;
+
 pub const MOST_ZONES: usize = 32;
 pub const MOST_UNITS: usize = 256;
 pub const MOST_POINTS: usize = 32;
@@ -57,7 +60,8 @@ pub const FACTORS: RangeInclusive<i64> = -10_000..=10_000;
 
 /// The kind byte of an entitlement list's record.
 pub const ENTITLEMENT: u8 = 0x10;
-pub const ENTITLEMENT_BODY: usize = 20;
+/// A record of the list, kind byte included.
+pub const ENTITLEMENT_RECORD: usize = 1 + 20;
 pub const MOST_ENTITLEMENTS: usize = 2_500;
 pub const ENTITLEMENTS: RangeInclusive<i64> = -100_000..=100_000;
 

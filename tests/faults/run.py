@@ -6,6 +6,7 @@ must be told on standard error, and no statement may be accepted from a part of 
 """
 import errno
 import os
+import re
 import resource
 import signal
 import stat
@@ -249,6 +250,16 @@ def named(run):
         same(run(arguments=["/dev/stdin", "list"], stdin=sheet), LISTING, of="standard input by name")
 
 
+def manual(run):
+    """Usage says what the man page says."""
+    with open(os.path.join(ROOT, "docs/settle.1")) as file:
+        page = file.read()
+    described = page.split(".SH DESCRIPTION\n")[1].split("\n.PP")[0].replace("\\(aq", "'").split()
+    _, err, _ = run(arguments=["--help"])
+    assert err.decode().split("\n", 1)[1].split() == described, described
+    assert re.sub(r"\\f.|\.B |\n", "", page.split(".SH SYNOPSIS\n")[1].split("\n.SH")[0]) == "settle[SHEET LIST]", page
+
+
 def main(program):
     program = os.path.abspath(program)
     with tempfile.TemporaryDirectory() as folder:
@@ -260,7 +271,7 @@ def main(program):
         files = os.path.join(folder, "files")
         os.mkdir(files)
         run = Runs(program, shim, files)
-        for part in (reading, interrupted, writing, outputs, unreadable, named):
+        for part in (reading, interrupted, writing, outputs, unreadable, named, manual):
             part(run)
         print("%d runs, every failure told and nothing accepted from a part of a file" % run.count)
 

@@ -1,4 +1,4 @@
-"""Files in, and where the repository stands."""
+"""Files in, text out, and where the repository stands."""
 
 import os
 import sys
@@ -25,6 +25,11 @@ def read_input():
     except (OSError, AttributeError) as error:
         reason = getattr(error, "strerror", None) or "it is closed"
         raise Trouble(f"standard input: {reason}") from None
+
+
+def encoded(text):
+    """Text as it is printed; the bytes of a path that is no UTF-8 as they are."""
+    return text.encode("utf-8", "surrogateescape")
 
 
 def whole(file, path):

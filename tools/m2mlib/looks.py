@@ -4,7 +4,7 @@ import os
 from collections import Counter
 
 from .faults import faults
-from .files import read_file
+from .files import encoded, read_file
 from .forms import show
 from .inputs import LISTS, SHEETS, is_text, load
 from .records import LIST, kinds_of, split
@@ -12,15 +12,15 @@ from .text import Text
 from .trouble import Fault, Trouble
 
 
-def check(paths, output):
+def check(call):
     """Prints every fault of every file; 0 where there is none, else 1."""
-    files = [file for path in paths for file in files_of(path)]
+    files = [file for path in call.arguments for file in files_of(path)]
     found = 0
     for path in files:
         told, count = faults_of(path)
         lines = [f"{path}: {line}" for line in told]
         lines = lines or [f"{path}: no fault in {count} records"]
-        output.write("".join(line + "\n" for line in lines).encode("utf-8", "surrogateescape"))
+        call.output.write(encoded("".join(line + "\n" for line in lines)))
         found += len(told)
     return int(found > 0)
 
@@ -49,17 +49,17 @@ def faults_of(path):
     return faults(data, kinds, text), len(list(split(data, kinds)))
 
 
-def show_file(path, output):
+def show_file(call):
     """Prints the records of a file, each with its offset and its number within its kind."""
-    data = load(path).data
+    data = load(*call.arguments).data
     kinds, counts, at = kinds_of(data), Counter(), 0
-    output.write(b"    at   no.  record\n" if data else b"")
+    call.output.write(b"    at   no.  record\n" if data else b"")
     for piece in split(data, kinds):
         counts[piece[0]] += 1
         lines = show(piece, kinds).splitlines()
         number = "" if lines[0].startswith("raw ") else counts[piece[0]]
         for k, line in enumerate(lines):
-            output.write(f"{at + 32 * k:>6}  {number:>4}  {line}\n".encode("ascii"))
+            call.output.write(f"{at + 32 * k:>6}  {number:>4}  {line}\n".encode("ascii"))
         at += len(piece)
-    output.write(f"{at:>6}        the end\n".encode("ascii"))
+    call.output.write(f"{at:>6}        the end\n".encode("ascii"))
     return 0

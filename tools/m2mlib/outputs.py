@@ -5,6 +5,7 @@ import io
 import json
 import textwrap
 
+from .files import encoded
 from .library import FIGURES
 from .refusals import words_of
 from .words import everyday, name_text, record_at, refusal_words
@@ -72,10 +73,6 @@ class Csv(Listing):
 
 FORMATS = {"--words": Words, "--json": Json, "--csv": Csv}
 IDENTITY = ("interval", "refusal", "reason", "place", "record", "flowgate", "flowgate_hex")
-
-
-def encoded(text):
-    return text.encode("utf-8", "surrogateescape")
 
 
 def csv_line(values):

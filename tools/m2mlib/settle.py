@@ -8,7 +8,7 @@ from typing import NamedTuple
 from .inputs import LISTS, Input, intervals, load_one
 from .library import Library, Statement
 from .outputs import FORMATS, Listing
-from .trouble import Trouble
+from .trouble import Trouble, warn
 
 load_list = lru_cache(maxsize=1)(load_one)
 
@@ -40,30 +40,30 @@ class Progress:
             sys.stderr.flush()
 
 
-def settle(paths, options, output, warn):
+def settle(call):
     """Settles all intervals; 0 all accepted, 1 some refused, 2 some could not be settled."""
-    chosen = [FORMATS[option] for option in options if option in FORMATS]
+    chosen = [FORMATS[option] for option in call.options if option in FORMATS]
     if len(chosen) > 1:
         raise Trouble("one of --words, --json and --csv is wanted, not several")
-    todo = intervals(paths, options.get("--list"))
+    todo = intervals(call.arguments, call.options.get("--list"))
     library, progress = Library(), Progress(len(todo))
     form = (chosen or [Listing])[0](len(todo))
     status = 0
-    output.write(form.begin())
+    call.output.write(form.begin())
     for done, interval in enumerate(todo, 1):
         try:
-            result = settle_one(interval, library, warn)
-            output.write(form.row(result))
+            result = settle_one(interval, library)
+            call.output.write(form.row(result))
             status = max(status, int(result.statement.refusal > 0))
         except Trouble as trouble:
             warn(str(trouble))
             status = 2
         progress.tell(done)
-    output.write(form.end())
+    call.output.write(form.end())
     return status
 
 
-def settle_one(interval, library, warn):
+def settle_one(interval, library):
     if not interval.lists:
         warn(f"{interval.name}: no {' or '.join(LISTS)} in it; the list counts as empty")
     sheet, entitlements = load_one(interval.sheets), load_list(interval.lists)

@@ -1,6 +1,10 @@
 """What ends a run, and how bytes that are no plain text are shown in a message."""
 
 
+import sys
+from contextlib import suppress
+
+
 class Trouble(Exception):
     """Why something can't be done, in a sentence."""
 
@@ -25,6 +29,13 @@ class Fault(Trouble):
         parts = [f"{where}: {self.message}", "it reads: " + shown(self.line.text.strip())]
         parts += ["its form: " + form for form in self.form.split("\n") if form]
         return "\n    ".join(parts)
+
+
+def warn(line):
+    """Tells a line on standard error, if that can be written to."""
+    with suppress(OSError, AttributeError):
+        sys.stderr.write(f"m2m: {line}\n")
+        sys.stderr.flush()
 
 
 def shown(text, most=200):

@@ -3,7 +3,6 @@
 import getopt
 import os
 import sys
-from contextlib import suppress
 from typing import Callable, NamedTuple
 
 from .cases import case_files, case_lines
@@ -14,7 +13,7 @@ from .manual import manual
 from .records import LIST, SHEET
 from .settle import settle
 from .text import Text
-from .trouble import Trouble
+from .trouble import Trouble, warn
 
 HELP = os.path.join(os.path.dirname(os.path.abspath(__file__)), "help.txt")
 
@@ -36,26 +35,8 @@ class Verb(NamedTuple):
     options: tuple = ()
 
 
-def warn(line):
-    """Tells a line on standard error, if that can be written to."""
-    with suppress(OSError, AttributeError):
-        sys.stderr.write(f"m2m: {line}\n")
-        sys.stderr.flush()
-
-
-def run_settle(call):
-    return settle(call.arguments, call.options, call.output, warn)
-
-
-def run_check(call):
-    return check(call.arguments, call.output)
-
-
-def run_show(call):
-    return show_file(call.arguments[0], call.output)
-
-
-def run_text(call):
+def text(call):
+    """The verb text: its jobs, both ways."""
     job, *paths = call.arguments
     if job not in TEXT_JOBS or bool(paths) != (job == "cases"):
         raise Trouble(f"'text' wants one of {', '.join(TEXT_JOBS)}; 'cases' alone takes paths")
@@ -83,12 +64,12 @@ TEXT_JOBS = {
 }
 
 
-def run_help(call):
+def tell_help(call):
     call.output.write(read_file(HELP))
     return 0
 
 
-def run_manual(call):
+def tell_manual(call):
     call.output.write(manual(read_file(HELP).decode("utf-8")).encode("utf-8"))
     return 0
 
@@ -96,12 +77,12 @@ def run_manual(call):
 SEE = "'m2m --help' tells all"
 ANY = 1 << 62
 VERBS = {
-    "settle": Verb(run_settle, 1, ANY, ("words", "json", "csv", "list=")),
-    "check": Verb(run_check, 1, ANY),
-    "show": Verb(run_show, 1, 1),
-    "text": Verb(run_text, 1, ANY),
-    "help": Verb(run_help, 0, ANY),
-    "manual": Verb(run_manual, 0, 0),
+    "settle": Verb(settle, 1, ANY, ("words", "json", "csv", "list=")),
+    "check": Verb(check, 1, ANY),
+    "show": Verb(show_file, 1, 1),
+    "text": Verb(text, 1, ANY),
+    "help": Verb(tell_help, 0, ANY),
+    "manual": Verb(tell_manual, 0, 0),
 }
 
 

@@ -3,10 +3,11 @@
 import os
 import shutil
 import subprocess
+import sys
 import tempfile
 import unittest
 
-from common import ROOT, run
+from common import ROOT, SAMPLE, TOOL
 
 RT = """#!/bin/sh
 # Two crates; the stamp is the source's sum, as the kit's own.
@@ -74,9 +75,10 @@ class Build(unittest.TestCase):
         self.assertIn("exports NOT PROVED", made.stderr)
 
     def test_without_the_kit(self):
-        outcome = run("settle", os.path.join(ROOT, "samples/sheet-s"), env={"PATH": "/usr/bin:/bin"})
-        self.assertEqual((outcome.returncode, outcome.stdout), (2, b""))
-        self.assertIn(b"rt is not to be found", outcome.stderr)
+        command = [sys.executable, TOOL, "settle", SAMPLE]
+        outcome = subprocess.run(command, env={"PATH": "/none"}, capture_output=True, text=True, check=False)
+        self.assertEqual((outcome.returncode, outcome.stdout), (2, ""))
+        self.assertIn("rt is not to be found", outcome.stderr)
 
 
 if __name__ == "__main__":

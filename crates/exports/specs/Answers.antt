@@ -1,4 +1,4 @@
--- The answers of the reader and of the list as numbers, for callers that have no enums. Assumes nothing.
+-- The answers of the reader and of the list as numbers, for callers that have no enums.
 use lib.IntN.{pos}
 use Rattle.sheet.specs.declared.Outcome.{Outcome}
 use Rattle.sheet.specs.declared.Outcome.the-variants as outcome

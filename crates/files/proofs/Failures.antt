@@ -9,7 +9,7 @@ use lib.IntN.{ℤ, pos, negsuc, natAbs}
 use lib.Signed.{mag, ltZ, nonNeg}
 use Rattle.files.specs.declared.Answer.{Answer}
 use Rattle.files.specs.declared.Answer.the-variants.{Interrupted, Error}
-use Rattle.files.specs.Transfer.{failed}
+use Rattle.files.specs.inner.Steps.{failed}
 
 -- what the test `errno < 0` says
 pub failed-negative : (errno : ℤ) → ltZ errno (pos 0) ≡ true → failed errno ≡ Error 0

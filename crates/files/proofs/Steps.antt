@@ -14,7 +14,8 @@ use Rattle.files.specs.declared.Outcome.{Outcome}
 use Rattle.files.specs.declared.Outcome.the-variants.{Whole, Failed}
 use Rattle.files.specs.declared.Step.{Step}
 use Rattle.files.specs.declared.Step.the-variants.{Onward, Over}
-use Rattle.files.specs.Transfer.{Moves, after, next, transfer, bytesOf, Answered, Leads, Transferred, Loaded}
+use Rattle.files.specs.Transfer.{after, next, transfer, bytesOf, Transferred, Loaded}
+use Rattle.files.specs.inner.Steps.{Moves, Answered, Leads}
 
 moved : (n done room : ℕ) (none : Outcome) (b e : Bool) → ltb n (room - done) ≡ b → bytesOf none ≤ room
     → Leads room (cond b (cond e (Over none) (Onward (done + n))) (Over (Whole room)))
@@ -80,3 +81,9 @@ given-up l = record { answers = l .answers ++ []; outcome = sym (l .onward []); 
 pub unopened : (room error : ℕ) → Loaded room 0
 unfolding transfer
 unopened room error = record { outcome = Failed error; received = record { answers = Error error ∷ []; outcome = refl; within = omega arith }; counts = refl }
+
+-- an error at whatever byte: what was moved before does not count
+pub partial-bytes-do-not-count : {none : ℕ → Outcome} {room done : ℕ} (l : Led none room done) (error : ℕ) (later : List Answer)
+    → bytesOf (transfer none room (l .answers ++ (Error error ∷ later)) 0) ≡ 0
+unfolding transfer
+partial-bytes-do-not-count l error later = ap bytesOf (l .onward (Error error ∷ later))

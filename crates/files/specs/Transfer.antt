@@ -1,27 +1,16 @@
--- All bytes or none: what reading and writing come to, by the answers of the calls in order.
-use Prim.Native.Nat.{ℕ, zero, suc, _+_, _-_, _≤_, _<_}
+-- All bytes or none: what reading and writing come to, by the answers of the calls in order. No contract of the kit says
+-- which bytes a call reads or writes, so that the answers are what is known of a call.
+use Prim.Native.Nat.{ℕ, _+_, _-_, _≤_}
 use mathlib.Core.Path.{_≡_}
 use mathlib.Core.Bool.{Bool, true, false, cond}
 use mathlib.Core.List.{List, [], _∷_}
 use lib.Dec.{eqb, ltb}
-use lib.IntN.{ℤ, pos, negsuc}
 use Rattle.files.specs.declared.Answer.{Answer}
 use Rattle.files.specs.declared.Answer.the-variants.{Moved, Interrupted, Error}
 use Rattle.files.specs.declared.Outcome.{Outcome}
 use Rattle.files.specs.declared.Outcome.the-variants.{Whole, Failed}
 use Rattle.files.specs.declared.Step.{Step}
 use Rattle.files.specs.declared.Step.the-variants.{Onward, Over}
-
--- a call that failed, by errno: 4 is EINTR, and no error's number is below 1
-abbrev pub failed : ℤ → Answer
-failed (pos n) = cond (eqb n 4) Interrupted (Error n)
-failed (negsuc n) = Error 0
-
--- a call that is handed so many bytes moves no more
-abbrev pub Moves : ℕ → Answer → Type 0
-Moves handed (Moved n) = n ≤ handed
-Moves handed Interrupted = Unit {0}
-Moves handed (Error error) = Unit {0}
 
 -- after a call that was handed the bytes behind the first `done` of `room`; one that moves none of them brings the outcome `none`
 abbrev pub after : Answer → ℕ → ℕ → Outcome → Step
@@ -33,7 +22,7 @@ abbrev pub next : Step → (ℕ → Outcome) → Outcome
 next (Onward done) onward = onward done
 next (Over outcome) onward = outcome
 
--- a transfer of room bytes, of which so many are done, by the answers to come; 4 where the calls were interrupted without end
+-- a transfer of room bytes, of which so many are done, by the answers to come; 4, EINTR, where they are all interruptions
 unfoldable pub transfer : (ℕ → Outcome) → ℕ → List Answer → ℕ → Outcome
 transfer none room [] done = Failed 4
 transfer none room (answer ∷ later) done = next (after answer done room (none done)) (transfer none room later)
@@ -42,17 +31,6 @@ transfer none room (answer ∷ later) done = next (after answer done room (none 
 abbrev pub bytesOf : Outcome → ℕ
 bytesOf (Whole n) = n
 bytesOf (Failed error) = 0
-
--- what one step comes to, by the answer of its call
-pub record Answered (none : ℕ → Outcome) (done room : ℕ) (r : Step) : Type 0 where
-  pub answer : Answer
-  pub moves : Moves (room - done) answer
-  pub step : r ≡ after answer done room (none done)
-
--- a step stays within the room
-abbrev pub Leads : ℕ → Step → Type 0
-Leads room (Onward done) = done ≤ room
-Leads room (Over outcome) = bytesOf outcome ≤ room
 
 -- what a transfer comes to, by the answers of its calls
 pub record Transferred (none : ℕ → Outcome) (room : ℕ) (r : Outcome) : Type 0 where

@@ -5,8 +5,8 @@ use telling::tell;
 ghost use Prim.Native.Nat.{ℕ, _≤_, _-_};
 ghost use mathlib.Core.Path.{_≡_};
 ghost use lib.ListN.{length};
-ghost use Rattle.files.specs.Transfer.{failed, Moves, after as Transfer·after, Received, Delivered};
-ghost use Rattle.files.specs.Transfer.{Answered, Leads, Loaded, Sent};
+ghost use Rattle.files.specs.Transfer.{after as Transfer·after, Received, Delivered, Loaded, Sent};
+ghost use Rattle.files.specs.inner.Steps.{failed, Moves, Answered, Leads};
 ghost use Rattle.io.specs.Counts.{Counts};
 ghost use Rattle.files.specs.declared.Outcome.the-variants.{Whole, Failed};
 

@@ -4,7 +4,7 @@ ghost use Prim.Native.Nat.{_+_, _≤_};
 ghost use lib.ListN.{length};
 ghost use Rattle.io.specs.Counts.{Counts};
 ghost use Rattle.writers.specs.inner.Wrote.{Wrote};
-ghost use Rattle.files.specs.Telling.{told};
+ghost use Rattle.files.specs.inner.Telling.{told};
 
 // What failed, as the line begins.
 fn put_told(program: &[u8], what: &[u8], out: &mut [u8]) -> usize

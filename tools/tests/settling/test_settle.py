@@ -19,7 +19,7 @@ from common import LONGEST, ROOT, SAMPLE, content, run, to_bytes, write  # noqa:
 from m2mlib.cases import case_files, case_lines, sections  # noqa: E402
 from m2mlib.faults import faults  # noqa: E402
 from m2mlib.library import FIGURES, Library  # noqa: E402
-from m2mlib.records import BY_NUMBER, SHEET, split  # noqa: E402
+from m2mlib.records import BY_NUMBER, LIST, SHEET, split  # noqa: E402
 from m2mlib.refusals import refusals  # noqa: E402
 
 LISTING = content("samples/sheet-s/listing.txt")
@@ -81,27 +81,41 @@ class Answers(unittest.TestCase):
         for path, sheet, _, _ in cases():
             self.assertEqual(bool(faults(sheet, SHEET)), library.place(sheet) is not None, path)
         for _ in range(3000):
-            sheet = damaged(SHEET_S, chance)
+            sheet = damaged(SHEET_S, SHEET, chance)
             self.assertEqual(bool(faults(sheet, SHEET)), library.place(sheet) is not None, sheet.hex())
 
+    def test_faults_of_a_list_are_told_exactly_where_row_14_is_met(self):
+        chance = random.Random(5)
+        for path, _, entitlements, _ in cases():
+            self.assertEqual(bool(faults(entitlements, LIST)), self.meets_14(entitlements), path)
+        sound = to_bytes("entitlement F 1\ninclude samples/sheet-s/entitle.txt\nentitlement G -100000")
+        for _ in range(3000):
+            entitlements = damaged(sound, LIST, chance)
+            told = bool(faults(entitlements, LIST))
+            self.assertEqual(told, self.meets_14(entitlements), entitlements.hex())
 
-def damaged(sheet, chance):
-    """A sheet with a field, a byte or a record changed."""
-    records = list(split(sheet, SHEET))
+    def meets_14(self, entitlements):
+        return library.settle(SHEET_S, entitlements)[0].refusal == 14
+
+
+def damaged(data, kinds, chance):
+    """A sheet or list with a field, a byte or a record changed."""
+    records = list(split(data, kinds))
     k = chance.randrange(len(records))
     kind = BY_NUMBER[records[k][0]]
     field = chance.randrange(len(kind.fields))
     at, size = kind.offsets[field], kind.fields[field].size
     change = chance.randrange(4)
     if change == 0:
-        value = chance.choice((0, 1, 2, 3, 900, 10_000, 200_000, 2_000_000)) % (1 << 8 * size)
+        value = chance.choice((0, 1, 2, 3, 900, 10_000, 100_000, 100_001, 200_000, 2_000_000))
+        value = chance.choice((value, -value)) % (1 << 8 * size)
         records[k] = records[k][:at] + value.to_bytes(size, "big") + records[k][at + size :]
     elif change == 1:
         records[k] = records[chance.randrange(len(records))]
     elif change == 2:
         del records[k]
     else:
-        return sheet[: chance.randrange(len(sheet))] + chance.randbytes(chance.randrange(3)) + sheet[at:]
+        return data[: chance.randrange(len(data))] + chance.randbytes(chance.randrange(3)) + data[at:]
     return b"".join(records)
 
 

@@ -3,10 +3,11 @@
 use std::fmt::Debug;
 
 use second::draft;
-use second::layout::{ENTITLEMENT_BODY, Kind};
+use second::layout::{ENTITLEMENT_RECORD, Kind, NAME};
 use second::names::NameField;
 use second::reader::read;
 use second::sheet::{Sheet, Subject};
+use second::units::Power;
 use second::{Refusal, Statement, listing};
 
 use crate::mismatch::Mismatch;
@@ -62,10 +63,19 @@ pub fn check(sides: &Sides, input: &Input, answer: &Answer) -> Result<u8, Mismat
 
 /// The flowgate's name as it stands on the sheet, and one from the list.
 fn names_of(sheet: &[u8], list: &[u8]) -> Vec<NameField> {
-    let (records, _) = list.as_chunks::<{ 1 + ENTITLEMENT_BODY }>();
-    let middle = records.get(records.len() / 2).map(|record| &record[1..17]);
-    let parts = [sheet.get(1..17), middle];
-    parts.into_iter().flatten().map(draft::name).collect()
+    let entries = entries(list);
+    let middle = entries.get(entries.len() / 2).map(name_of);
+    let flowgate = sheet.get(NAME).map(draft::name);
+    flowgate.into_iter().chain(middle).collect()
+}
+
+/// The whole records at the front of a list.
+pub fn entries(list: &[u8]) -> &[[u8; ENTITLEMENT_RECORD]] {
+    list.as_chunks().0
+}
+
+pub fn name_of(entry: &[u8; ENTITLEMENT_RECORD]) -> NameField {
+    draft::name(&entry[NAME])
 }
 
 /// Compares statement and buffer; the refusal met, 0 on acceptance.
@@ -100,7 +110,7 @@ fn accuracy(sides: &Sides, sheet: &[u8], list: &[u8]) -> Result<(), Mismatch> {
         targets: vec![(0, generation_to_load(&figures))],
         market: figures.market,
         amount: figures.amount,
-        entitlement: figures.entitlement / 100_000,
+        entitlement: figures.entitlement / Power(1).watts().0,
     };
     for par in 1..=content.pars.len() {
         let (sheet, list) = par_as_flowgate(sheet, &content, par);

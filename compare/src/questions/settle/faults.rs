@@ -2,7 +2,9 @@
 
 use std::ops::RangeInclusive;
 
-use second::layout::{ENTITLEMENTS, Kind, LOADS, MOST_ENTITLEMENTS, PAR_FLOWS, PRICES, SCHEDULES};
+use second::layout::{
+    ENTITLEMENTS, Kind, LOADS, MOST_ENTITLEMENTS, NAME, PAR_FLOWS, PRICES, SCHEDULES,
+};
 use second::names::NameField;
 use second::{Refusal, draft};
 
@@ -347,7 +349,7 @@ fn list(chance: &mut Chance, flowgate: NameField, rows: &[u8]) -> Vec<u8> {
     let count = chance.pick(&[1, 3, 10]);
     let mut list = list_with(chance, flowgate, 5, count);
     if rows.contains(&15) {
-        list.retain(|record| record[1..17] != flowgate);
+        list.retain(|record| record[NAME] != flowgate);
     }
     if rows.contains(&14) {
         fault_in_list(chance, flowgate, &mut list);
@@ -371,7 +373,7 @@ fn fault_in_list(chance: &mut Chance, flowgate: NameField, list: &mut Vec<Vec<u8
         3 => {
             let there = list
                 .first()
-                .map_or(flowgate.to_vec(), |r| r[1..17].to_vec());
+                .map_or(flowgate.to_vec(), |record| record[NAME].to_vec());
             let name = draft::name(&there);
             list.insert(0, draft::entitlement(name, 1));
             draft::entitlement(name, 2)

@@ -1,6 +1,6 @@
 //! Inputs drawn by chance: sound ones, extreme ones and damaged ones.
 
-use second::layout::{ENTITLEMENTS, FACTORS, LOADS, MOST_ENTITLEMENTS, MOST_PARS, PAR_FLOWS};
+use second::layout::{ENTITLEMENTS, FACTORS, LOADS, MOST_ENTITLEMENTS, MOST_PARS, NAME, PAR_FLOWS};
 use second::names::NameField;
 use second::payment::LARGEST_FLOW;
 use second::units::Power;
@@ -351,7 +351,7 @@ fn listed(chance: &mut Chance) -> Input {
     match chance.below(6) {
         0 => {
             let again = list[other].clone();
-            list[one][1..17].copy_from_slice(&again[1..17]);
+            list[one][NAME].copy_from_slice(&again[NAME]);
         }
         1 => list[one] = draft::entitlement([0; 16], 0),
         2 => list[one][17] ^= 0x40,

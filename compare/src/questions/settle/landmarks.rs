@@ -4,17 +4,19 @@ use second::balance::{Balance, balance};
 use second::exact;
 use second::flow::{carried, market_flow};
 use second::fraction::Fraction;
-use second::layout::{Kind, LOADS, MOST_ENTITLEMENTS, MOST_UNITS, MOST_ZONES};
+use second::layout::{
+    Fields, Kind, LOADS, MOST_ENTITLEMENTS, MOST_PARS, MOST_POINTS, MOST_UNITS, MOST_ZONES, NAME,
+};
 use second::names::NameField;
 use second::payment::LARGEST_FLOW;
 use second::reader::read;
 use second::sheet::{Class, FLOWGATE, Place, Rto, Sheet};
-use second::units::AMOUNT_DIVISOR;
-use second::{Refusal, Statement, listing};
+use second::units::{AMOUNT_DIVISOR, Power};
+use second::{Refusal, Statement, draft, listing};
 
 use crate::crafted::share_a_bucket;
 use crate::questions::settle::Input;
-use crate::questions::settle::check::{Answer, records};
+use crate::questions::settle::check::{Answer, entries, name_of, records};
 use crate::questions::settle::directed::LONGEST_REACHED;
 
 const ACCEPTED: [&str; 31] = [
@@ -92,79 +94,102 @@ fn half(remainder: i64, divisor: i64) -> bool {
 
 /// The names of the list's entries.
 fn entry_names(list: &[u8]) -> Vec<NameField> {
-    let (entries, _) = list.as_chunks::<21>();
-    let name = |entry: &[u8; 21]| second::draft::name(&entry[1..17]);
-    entries.iter().map(name).collect()
+    entries(list).iter().map(name_of).collect()
 }
 
 fn full_bucket<'a>(names: impl Iterator<Item = &'a NameField> + Clone, count: usize) -> bool {
     names.clone().count() == count && share_a_bucket(names)
 }
 
-fn accepted(input: &Input, statement: &Statement) -> [bool; ACCEPTED.len()] {
+fn accepted(input: &Input, statement: &Statement) -> Vec<bool> {
     let sheet = &read(&input.sheet).expect("an accepted sheet is read");
     let balance = &balance(sheet).expect("an accepted sheet is balanced");
+    let mut shown = figures(sheet, balance, statement).to_vec();
+    shown.extend(powers(sheet, balance));
+    shown.extend(accuracy(sheet, statement));
+    shown.extend(pars(sheet, balance));
+    shown.extend(sizes(input, sheet, statement));
+    assert_eq!(shown.len(), ACCEPTED.len());
+    shown
+}
+
+/// Ties, differences and limits.
+fn figures(sheet: &Sheet, balance: &Balance, statement: &Statement) -> [bool; 10] {
     let gtl = statement.flow.generation_to_load;
     let market = statement.flow.market.0;
     let difference = market - statement.entitlement.0;
     let product = difference * statement.payment.price.0 * sheet.head.seconds.0;
-    let short = LARGEST_FLOW.0 - market.abs();
-    let remainders = (gtl.first_remainder.0, gtl.second_remainder.0);
-    let is_exact = || exact::generation_to_load(sheet, FLOWGATE) == Fraction::whole(gtl.flow.0);
-    let [common, noncommon] = [Class::Common, Class::NonCommon].map(|class| {
-        let count = sheet.pars.iter().filter(|par| par.class == class).count();
-        (count, carried(sheet, balance, class).0)
-    });
-    let pjm = sheet.head.monitoring == Rto::Pjm;
-    let [other_side, three, beyond_common, beyond_price] = accuracy(sheet, statement, common.0);
-    let units: Vec<NameField> = sheet.units.iter().map(|it| it.name.field()).collect();
-    let entries = entry_names(&input.list);
-    let last = |zone: usize| sheet.zones.len() == MOST_ZONES && zone == MOST_ZONES - 1;
+    let [common, noncommon] = [Class::Common, Class::NonCommon]
+        .map(|class| half(carried(sheet, balance, class).0 % 10_000, 10_000));
     [
-        half(remainders.0, balance.net_load.0),
-        half(remainders.1, balance.net_generation.0),
-        half(common.1 % 10_000, 10_000),
-        pjm && half(noncommon.1 % 10_000, 10_000),
+        half(gtl.first_remainder.0, balance.net_load.0),
+        half(gtl.second_remainder.0, balance.net_generation.0),
+        common,
+        noncommon && sheet.head.monitoring == Rto::Pjm,
         half(product % AMOUNT_DIVISOR, AMOUNT_DIVISOR),
         difference == 0,
         difference.abs() == 1,
         market == LARGEST_FLOW.0,
         market == -LARGEST_FLOW.0,
-        (1..10).contains(&short),
+        (1..10).contains(&(LARGEST_FLOW.0 - market.abs())),
+    ]
+}
+
+fn powers(sheet: &Sheet, balance: &Balance) -> [bool; 4] {
+    [
         balance.final_generation.0 == 0,
-        final_load(sheet, balance) == 1,
+        balance.net_load.0 - of_proxies(sheet, |it| it.import.0) == 1,
         loads(sheet) == *LOADS.end(),
         balance.outputs.0 == *LOADS.end(),
-        remainders != (0, 0) && is_exact(),
-        other_side,
-        three,
-        beyond_common,
-        beyond_price,
-        noncommon.0 > 0 && !pjm,
-        noncommon.0 > 0 && pjm,
-        noncommon.0 == 8 && !pjm,
-        noncommon.0 == 8 && pjm,
-        common.1.abs() > 20_000_000_000_000_000 && noncommon.1.abs() > 20_000_000_000_000_000,
+    ]
+}
+
+/// Non-common PARs by the Monitoring RTO, any and eight, and what PARs carry.
+fn pars(sheet: &Sheet, balance: &Balance) -> [bool; 5] {
+    let pjm = sheet.head.monitoring == Rto::Pjm;
+    let noncommon = count(sheet, Class::NonCommon);
+    let carry = |class| carried(sheet, balance, class).0.abs();
+    [
+        noncommon > 0 && !pjm,
+        noncommon > 0 && pjm,
+        noncommon == 8 && !pjm,
+        noncommon == 8 && pjm,
+        carry(Class::Common).min(carry(Class::NonCommon)) > 20_000_000_000_000_000,
+    ]
+}
+
+fn count(sheet: &Sheet, class: Class) -> usize {
+    sheet.pars.iter().filter(|par| par.class == class).count()
+}
+
+/// The last zone, the longest sheet and listing, full buckets, the largest entitlement.
+fn sizes(input: &Input, sheet: &Sheet, statement: &Statement) -> [bool; 7] {
+    let units: Vec<NameField> = sheet.units.iter().map(|it| it.name.field()).collect();
+    let last = |zone: usize| sheet.zones.len() == MOST_ZONES && zone == MOST_ZONES - 1;
+    [
         sheet.units.iter().any(|unit| last(unit.zone.index())),
         sheet.points.iter().any(|point| match point.place {
             Place::Line(zone) => last(zone.index()),
             Place::Proxy => false,
         }),
-        input.sheet.len() == 27_748,
+        sheet.counts() == [MOST_UNITS, MOST_ZONES, MOST_POINTS, MOST_PARS],
         listing(statement).len() == LONGEST_REACHED,
         full_bucket(units.iter(), MOST_UNITS),
-        full_bucket(entries.iter(), MOST_ENTITLEMENTS),
+        full_bucket(entry_names(&input.list).iter(), MOST_ENTITLEMENTS),
         statement.entitlement.abs() == LARGEST_FLOW,
     ]
 }
 
-/// On the other side, 3 W off, off by more than common PARs allow, and the amount by
-/// more than the price taken does.
-fn accuracy(sheet: &Sheet, statement: &Statement, common: usize) -> [bool; 4] {
+/// Exact with remainders, on the other side, 3 W off, off by more than common PARs
+/// allow, and the amount by more than the price taken does.
+fn accuracy(sheet: &Sheet, statement: &Statement) -> [bool; 5] {
+    let gtl = statement.flow.generation_to_load;
+    let remainders = (gtl.first_remainder.0, gtl.second_remainder.0);
+    let is_exact = || exact::generation_to_load(sheet, FLOWGATE) == Fraction::whole(gtl.flow.0);
     let flow = exact::market_flow(sheet);
     let market = statement.flow.market.0;
     let error = (&Fraction::whole(market) - &flow).abs();
-    let entitlement = second::units::Power(statement.entitlement.0 / 100_000);
+    let entitlement = Power(statement.entitlement.0 / Power(1).watts().0);
     let difference = market - statement.entitlement.0;
     let exact_side = (&flow - &Fraction::whole(statement.entitlement.0)).signum();
     let amount = exact::amount(sheet, &flow, entitlement);
@@ -172,9 +197,10 @@ fn accuracy(sheet: &Sheet, statement: &Statement, common: usize) -> [bool; 4] {
     let worth = exact::flow_bound(sheet) * statement.payment.price.0 * sheet.head.seconds.0;
     let by_taken = &Fraction::of(worth, AMOUNT_DIVISOR) + &Fraction::of(1, 2);
     [
+        remainders != (0, 0) && is_exact(),
         exact_side * difference.signum() < 0,
         error >= Fraction::whole(3),
-        error > Fraction::whole(common as i64 + 2),
+        error > Fraction::whole(count(sheet, Class::Common) as i64 + 2),
         amount_error > by_taken,
     ]
 }
@@ -193,10 +219,6 @@ fn of_proxies(sheet: &Sheet, schedule: fn(&second::sheet::Point) -> i64) -> i64 
     proxies.map(schedule).sum()
 }
 
-fn final_load(sheet: &Sheet, balance: &Balance) -> i64 {
-    balance.net_load.0 - of_proxies(sheet, |it| it.import.0)
-}
-
 fn refused(input: &Input, refusal: Refusal) -> [bool; REFUSED.len()] {
     let mut shown = [false; REFUSED.len()];
     match refusal {
@@ -209,7 +231,7 @@ fn refused(input: &Input, refusal: Refusal) -> [bool; REFUSED.len()] {
         }
         Refusal::NoEntitlement => {
             let mut names = entry_names(&input.list);
-            names.push(second::draft::name(&input.sheet[1..17]));
+            names.push(draft::name(&input.sheet[NAME]));
             shown[4] = full_bucket(names.iter(), MOST_ENTITLEMENTS);
         }
         _ if refusal >= Refusal::TooMuchPower => {
@@ -226,7 +248,7 @@ fn refused(input: &Input, refusal: Refusal) -> [bool; REFUSED.len()] {
 fn in_a_full_bucket(sheet: &[u8]) -> bool {
     let units = records(sheet).into_iter();
     let units = units.filter(|record| record[0] == Kind::Unit as u8);
-    let names: Vec<NameField> = units.map(|it| second::draft::name(&it[1..17])).collect();
+    let names: Vec<NameField> = units.map(|it| draft::name(&it[NAME])).collect();
     full_bucket(names.iter(), MOST_UNITS)
 }
 
@@ -245,15 +267,17 @@ fn in_zone_32_of_31(sheet: &[u8]) -> [bool; 2] {
         Some((*begin - record.len(), record))
     });
     let mut offending = offending.filter(|(place, _)| *place == refused.place);
-    let record = offending.next().map_or(&[][..], |(_, record)| record);
-    let is = |kind: Kind| record.first() == Some(&(kind as u8));
+    let Some((_, record)) = offending.next() else {
+        return [false; 2];
+    };
     // Behind the name stand a unit's zone, and a point's type and place.
-    let (unit, line) = (record.get(17), record.get(18));
-    let last = Some(&(MOST_ZONES as u8));
+    let mut behind_name = Fields::of(&record[NAME.end..]);
+    let (first, second) = (behind_name.byte(), behind_name.byte());
+    let at = |kind: Kind, byte| record[0] == kind as u8 && usize::from(byte) == MOST_ZONES;
     let of_31 = zones == MOST_ZONES - 1;
     [
-        of_31 && is(Kind::Unit) && unit == last,
-        of_31 && is(Kind::Point) && line == last,
+        of_31 && at(Kind::Unit, first),
+        of_31 && at(Kind::Point, second),
     ]
 }
 

@@ -1,4 +1,4 @@
--- `m2m_entitlement` meets its contract. Assumes nothing.
+-- `m2m_entitlement` meets its contract.
 use mathlib.Core.Path.{_≡_, sym, ap, _∙_}
 use mir.Facts.{toZ-ofZ}
 use mir.Syntax.{w64}

@@ -1,4 +1,4 @@
--- `m2m_read` meets its contract. Assumes nothing.
+-- `m2m_read` meets its contract.
 use mathlib.Core.Path.{_≡_, sym, ap, _∙_}
 use borrow.Author.Needs.{needs}
 use Rattle.exports.specs.Answers.{readAnswer}

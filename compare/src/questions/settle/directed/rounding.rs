@@ -12,13 +12,23 @@ use crate::interval::{Interval, Scale, Sizes, drawn};
 use crate::questions::settle::directed::{Directed, with_entitlement};
 use crate::questions::settle::inputs::market;
 
+/// The Monitoring and the Non-Monitoring price: the dearer one on either side.
+const PRICES: [[u32; 2]; 6] = [
+    [400_000, 0],
+    [0, 400_000],
+    [6000, 400_000],
+    [400_000, 2000],
+    [400_000, 400_000],
+    [0, 0],
+];
+
 /// Sheets with eight PARs whose roundings add up, the flow next to the entitlement of
 /// 0; PARs of one class or of both.
 pub fn all(chance: &mut Chance) -> Vec<Directed> {
     let mut all = Vec::new();
     for common in [0, MOST_PARS / 2, MOST_PARS] {
         for monitoring in [1, 2] {
-            for prices in [[400_000, 0], [0, 400_000], [6000, 400_000], [0, 0]] {
+            for prices in PRICES {
                 let mut interval = much_rounded(chance, common);
                 interval.head.monitoring = monitoring;
                 interval.head.prices = prices;

@@ -5,7 +5,7 @@ use Rattle.io.specs.Counts.{Counts}
 use Rattle.writers.specs.Text.{ascii}
 use Rattle.writers.specs.inner.Wrote.{Wrote}
 use Rattle.writers.proofs.Writing.{next, counted}
-use Rattle.files.specs.Telling.{told}
+use Rattle.files.specs.inner.Telling.{told}
 use borrow.Author.Needs.{needs}
 use Rattle.files.proofs.telling.put_told.Statement.{statement}
 use Rattle.files.proofs.telling.put_told.Tie as tie
