@@ -93,6 +93,9 @@ pub struct Sides<'a> {
     pub tested: &'a dyn Side,
 }
 
+/// Any well-formed name.
+pub const ANY_NAME: NameField = *b"?\0\0\0\0\0\0\0\0\0\0\0\0\0\0\0";
+
 /// A type that answers by the second implementation, or by a copy of its crate.
 #[macro_export]
 macro_rules! reference {
@@ -170,7 +173,7 @@ macro_rules! reference {
                 name: &[u8; 16],
             ) -> $crate::sides::EntitlementAnswer {
                 // A name that is not well formed stands in no list that passes row 14.
-                let other = $second::Name::of([b'?'; 16]).expect("it is well formed");
+                let other = $second::Name::of($crate::sides::ANY_NAME).expect("it is a name");
                 let sought = $second::Name::of(*name);
                 let missing = Err($second::Refusal::NoEntitlement);
                 let answer = $second::entitlement::entitlement(list, sought.unwrap_or(other))

@@ -28,9 +28,7 @@ module _ (n : Counts) where
 
   pub length-each : (t : ℕ) → length (each n t) ≡ every n
   unfolding each
-  length-each t =
-      rw (length-append (run t 1 units) (run t 2 zones ++ run t 3 points), length-append (run t 2 zones) (run t 3 points))
-      (omega (arith, length-tab (key t 1) units, length-tab (key t 2) zones, length-tab (key t 3) points))
+  length-each t = simp (length-append, length-tab) (omega arith)
 
   pub length-whole : (t pars : ℕ) → length (whole t pars) ≡ every n + pars
   length-whole t pars = rw (length-append (each n t) (run t 4 pars)) (omega (arith, length-each t, length-tab (key t 4) pars))
@@ -38,7 +36,7 @@ module _ (n : Counts) where
   pub length-per : (p : ℕ) → length (perPar n p) ≡ p * every n
   unfolding perPar
   length-per zero = omega arith
-  length-per (suc p) = rw (length-append (perPar n p) (each n (suc p))) (omega (arith, length-per p, length-each (suc p)))
+  length-per (suc p) = simp (length-append, length-each, length-per p) (omega arith)
 
   pub length-due : length (dueList n) ≡ every n + n .pars + n .pars * every n
   unfolding dueList flowgate
