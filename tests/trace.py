@@ -100,7 +100,7 @@ def without_contract(trace):
 def landmarks_missing(trace):
     """The landmarks that no list of them in the comparison has."""
     lists = (ROOT / "compare" / "src").glob("**/landmarks.rs")
-    told = "".join(part for p in lists for part in re.findall(r"const \w+: \[&str; \d+\] = \[(.*?)\];", text_of(p), re.S))
+    told = "".join("".join(re.findall(r"const \w+: \[&str; \d+\] = \[(.*?)\];", text_of(p), re.S)) for p in lists)
     for named in re.findall(r'landmarks? ((?:"[^"]+"(?:, )?)+)', trace):
         yield from (name for name in re.findall(r'"([^"]+)"', named) if f'"{name}"' not in told)
 
@@ -114,14 +114,16 @@ def main():
     trace = text_of(TRACE)
     body = trace.split("## Demands", 1)[1]
     references = references_of(body)
-    wrong = [f"line {n}: {len(line)} characters" for n, line in enumerate(trace.splitlines(), 1) if len(line) > LONGEST_LINE]
+    lines = enumerate(trace.splitlines(), 1)
+    wrong = [f"line {n}: {len(line)} characters" for n, line in lines if len(line) > LONGEST_LINE]
     wrong += [f"not found: {m} (in `{r}`)" for r in references for m in missing(r)]
     wrong += [f"no contract: {name}" for name in without_contract(body)]
     wrong += [f"no landmark: {name}" for name in landmarks_missing(re.sub(r"\s+", " ", body))]
     named = {e for r in references for e in edits(*parts(r)) if FOLDERS_OF_EDITS.fullmatch(parts(r)[0])}
     every = set(ROOT.glob("crates/*/must-fail/*.edit"))
     wrong += [f"not named: {e.relative_to(ROOT)}" for e in sorted(every - named)]
-    print(f"{len(references)} references of docs/TRACE.md; {len(named & every)} of {len(every)} must-fail edits are named")
+    counts = f"{len(named & every)} of {len(every)} must-fail edits are named"
+    print(f"{len(references)} references of docs/TRACE.md; {counts}")
     if wrong:
         sys.exit("\n".join(wrong))
 
