@@ -16,7 +16,7 @@ ghost use Rattle.layout.specs.inner.Listed.{Listed};
 ghost use Rattle.sheet.specs.declared.Outcome.the-variants.{Accepted};
 ghost use Rattle.sheet.specs.Sheet.{readSheet, contentOf};
 ghost use Rattle.sheet.specs.inner.Passed.{Passed};
-ghost use Rattle.sheet.specs.inner.GoodFactors.{keyOf, Good};
+ghost use Rattle.sheet.specs.inner.GoodFactors.{keyOf, Good, lesser};
 use layout::Layout;
 use layout::counts_in;
 use records::FACTOR_BODY;
@@ -94,8 +94,8 @@ fn good_factor(s: &[u8], at: usize, key: u32) -> bool
     due & !record_rows::factor_beyond(fields::sbe16_at(s, at + 5))
 }
 
-fn least(a: usize, b: usize) -> usize
-    ensures { λ r. ⌜ (r ≤ a) × (r ≤ b) ⌝ }
+fn lesser(a: usize, b: usize) -> usize
+    ensures { λ r. ⌜ (r ≡ lesser a b) × (r ≤ a) × (r ≤ b) ⌝ }
 {
     if a < b { a } else { b }
 }
@@ -105,7 +105,7 @@ fn good_factors(s: &[u8], at: usize, key: u32, most: usize) -> usize
     requires { ⌜ (at ≤ length (now s)) × (key + most < 2 ^ 32) ⌝ }
     ensures { λ r. ⌜ (r ≤ most) × ((k : ℕ) → k < r → Good (now (s .entry)) (at + size 6 * k) (key + k)) ⌝ }
 {
-    let whole = least((s.len() - at) / FACTOR_SIZE, most);
+    let whole = lesser((s.len() - at) / FACTOR_SIZE, most);
     let mut n = 0;
     let mut p = at;
     while n < whole {

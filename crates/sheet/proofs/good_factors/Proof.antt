@@ -15,11 +15,11 @@ Inv-loop s at key most whole n₀ p₀ n p = (n ≤ whole) × (p ≡ at + 7 * n)
 abbrev μ-loop : tie.MeasureT-loop
 μ-loop s at key most whole n₀ p₀ n p = whole - n
 
-sub-least : tie.Need-sub-least Inv-loop μ-loop
-sub-least c = search needs
+sub-lesser : tie.Need-sub-lesser Inv-loop μ-loop
+sub-lesser c = search needs
 
-least-requires : tie.Need-least-requires Inv-loop μ-loop
-least-requires c κs = search needs
+lesser-requires : tie.Need-lesser-requires Inv-loop μ-loop
+lesser-requires c κs = search needs
 
 loop-holds : tie.Need-loop-holds Inv-loop μ-loop
 loop-holds c = (omega arith, omega arith, λ k h. absurd (omega arith))
@@ -64,8 +64,8 @@ good-factors-spec =
     (tie.spec
     Inv-loop
     μ-loop
-    sub-least
-    least-requires
+    sub-lesser
+    lesser-requires
     loop-holds
     cast-good-factor
     add-good-factor

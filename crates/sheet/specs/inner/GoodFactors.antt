@@ -1,8 +1,9 @@
 -- Which factors pass in a run.
 use Prim.Native.Nat.{ℕ, _+_, _*_, _≤_, _<_}
 use mathlib.Core.Path.{_≡_}
-use mathlib.Core.Bool.{false}
+use mathlib.Core.Bool.{false, cond}
 use mathlib.Core.List.{List}
+use lib.Dec.{ltb}
 use lib.ListN.{length}
 use Rattle.fields.specs.Fields.{byteAt, be32, sbe16}
 use Rattle.due_factors.specs.declared.Due.{Due}
@@ -25,3 +26,6 @@ pub record Good (s : List ℕ) (at key : ℕ) : Type 0 where
 -- r factors more
 abbrev pub withFactors : Layout → ℕ → Layout
 withFactors l r = record { heads = l .heads; zones = l .zones; units = l .units; points = l .points; pars = l .pars; factors = l .factors + r }
+
+abbrev pub lesser : ℕ → ℕ → ℕ
+lesser a b = cond (ltb a b) a b
