@@ -23,8 +23,8 @@
 extern "C" {
 #endif
 
-/* The longest listing of an accepted statement has fewer bytes than this. */
-#define M2M_LISTING_ROOM 394
+/* No listing of an accepted statement has more bytes than this. */
+#define M2M_LISTING_ROOM 288
 
 /*
  * The statement. Flows and entitlement are in watts, the price in cents per MWh, amount and payments in thousandths of

@@ -6,7 +6,7 @@ from typing import NamedTuple
 from . import build
 from .trouble import Trouble
 
-ROOM = 394  # include/m2m.h: no listing is longer
+ROOM = 288  # include/m2m.h: no listing is longer
 
 
 class Figure(NamedTuple):
