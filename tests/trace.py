@@ -1,8 +1,9 @@
 #!/usr/bin/env python3
 """Whether docs/TRACE.md names only what there is, and names every must-fail edit.
 
-Each reference stands between backquotes, in one of the forms that TRACE's table of columns gives; words of
-the code stand between double ones. Prints how many there are; one that leads nowhere fails.
+Each reference stands between backquotes, in one of the forms that the beginning of TRACE gives; words of the
+code stand between double ones. A function under 'Contract' must have one. Prints how many references there
+are; one that leads nowhere fails, and so does a line that is too long to read.
 """
 import re
 import sys
@@ -10,6 +11,8 @@ from pathlib import Path
 
 ROOT = Path(__file__).resolve().parent.parent
 TRACE = ROOT / "docs" / "TRACE.md"
+LONGEST_LINE = 115
+FOLDERS_OF_EDITS = re.compile(r"\w+/must-fail|second/mistakes")
 
 
 def text_of(path):
@@ -30,9 +33,18 @@ def python_has(text, name):
     return re.search(r"\b(?:def|class)\s+%s\b" % re.escape(name), text)
 
 
+def sources(crate):
+    return [text_of(s) for s in (ROOT / "crates" / crate / "src").glob("**/*.rt")]
+
+
 def source_has(crate, name):
-    sources = (ROOT / "crates" / crate / "src").glob("**/*.rt")
-    return any(rust_has(text_of(s), name) for s in sources)
+    return any(rust_has(text, name) for text in sources(crate))
+
+
+def has_contract(crate, function):
+    """Whether a function of a crate has an `ensures` between its name and its body."""
+    head = r"\bfn %s\b(?:(?!\bfn )[\s\S])*?^\s*ensures \{" % re.escape(function)
+    return any(re.search(head, text, re.M) for text in sources(crate))
 
 
 HAS = {".antt": antt_has, ".rs": rust_has, ".py": python_has}
@@ -46,12 +58,22 @@ def in_file(path, names):
     return [n for n in names if not HAS[path.suffix](text, n)]
 
 
-def missing(reference):
-    """What of a reference can't be found; None where it is no reference."""
+def edits(place, names):
+    """The files of edits that are named, below crates/ or in second/mistakes."""
+    folder = ROOT / place if place == "second/mistakes" else ROOT / "crates" / place
+    return [folder / (name + ".edit") for name in names]
+
+
+def parts(reference):
     place, _, rest = reference.partition(": ")
-    names = [n.strip() for n in rest.split(",")] if rest else []
-    if re.fullmatch(r"\w+/must-fail/\w+", place):
-        return [] if (ROOT / "crates" / (place + ".edit")).is_file() else [place]
+    return place, [n.strip() for n in rest.split(",")] if rest else []
+
+
+def missing(reference):
+    """What of a reference can't be found."""
+    place, names = parts(reference)
+    if FOLDERS_OF_EDITS.fullmatch(place) and names:
+        return [str(e.relative_to(ROOT)) for e in edits(place, names) if not e.is_file()]
     if re.fullmatch(r"\w+/(?:specs|proofs)/[\w/]+\.antt", place):
         return in_file(ROOT / "crates" / place, names)
     if re.fullmatch(r"\w+\.rs", place):
@@ -66,23 +88,42 @@ def missing(reference):
     return [reference]
 
 
+def without_contract(trace):
+    """The functions under 'Contract' that have none."""
+    for item in re.findall(r"(?m)^- Contract: (.*(?:\n  .*)*)", trace):
+        for reference in references_of(item):
+            place, names = parts(reference)
+            if (ROOT / "crates" / place / "src").is_dir():
+                yield from (f"{place}: {n}" for n in names if not has_contract(place, n))
+
+
 def landmarks_missing(trace):
-    told = "".join(text_of(p) for p in (ROOT / "compare" / "src").glob("**/*.rs"))
-    return [name for name in re.findall(r'landmarks? ((?:"[^"]+"(?:, )?)+)', trace) for name in re.findall(r'"([^"]+)"', name) if f'"{name}"' not in told]
+    """The landmarks that no list of them in the comparison has."""
+    lists = (ROOT / "compare" / "src").glob("**/landmarks.rs")
+    told = "".join("".join(re.findall(r"const \w+: \[&str; \d+\] = \[(.*?)\];", text_of(p), re.S)) for p in lists)
+    for named in re.findall(r'landmarks? ((?:"[^"]+"(?:, )?)+)', trace):
+        yield from (name for name in re.findall(r'"([^"]+)"', named) if f'"{name}"' not in told)
+
+
+def references_of(text):
+    """What stands between single backquotes, white space made even."""
+    return re.findall(r"`([^`]+)`", re.sub(r"\s+", " ", re.sub(r"``.*?``", "", text, flags=re.S)))
 
 
 def main():
     trace = text_of(TRACE)
-    body = re.sub(r"\s+", " ", re.sub(r"``.*?``", "", trace.split("## Demands", 1)[1], flags=re.S))
-    references = re.findall(r"`([^`]+)`", body)
-    wrong = [f"not found: {m} (in `{r}`)" for r in references for m in missing(r)]
-    wrong += [f"no landmark: {name}" for name in landmarks_missing(body)]
-    named = set(re.findall(r"\w+/must-fail/\w+", body))
-    for edit in sorted(ROOT.glob("crates/*/must-fail/*.edit")):
-        name = f"{edit.parent.parent.name}/must-fail/{edit.stem}"
-        if name not in named:
-            wrong.append(f"not named: {name}")
-    print(f"{len(references)} references of docs/TRACE.md, {len(named)} must-fail edits among them")
+    body = trace.split("## Demands", 1)[1]
+    references = references_of(body)
+    lines = enumerate(trace.splitlines(), 1)
+    wrong = [f"line {n}: {len(line)} characters" for n, line in lines if len(line) > LONGEST_LINE]
+    wrong += [f"not found: {m} (in `{r}`)" for r in references for m in missing(r)]
+    wrong += [f"no contract: {name}" for name in without_contract(body)]
+    wrong += [f"no landmark: {name}" for name in landmarks_missing(re.sub(r"\s+", " ", body))]
+    named = {e for r in references for e in edits(*parts(r)) if FOLDERS_OF_EDITS.fullmatch(parts(r)[0])}
+    every = set(ROOT.glob("crates/*/must-fail/*.edit"))
+    wrong += [f"not named: {e.relative_to(ROOT)}" for e in sorted(every - named)]
+    counts = f"{len(named & every)} of {len(every)} must-fail edits are named"
+    print(f"{len(references)} references of docs/TRACE.md; {counts}")
     if wrong:
         sys.exit("\n".join(wrong))
 
