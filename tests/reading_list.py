@@ -17,6 +17,12 @@ ENTRY_POINTS = [
     ("sheet", "read"),
     ("entitlements", "find"),
     ("listing", "print"),
+    ("exports", "m2m_settle"),
+    ("exports", "m2m_report"),
+    ("exports", "m2m_read"),
+    ("exports", "m2m_entitlement"),
+    ("files", "load"),
+    ("files", "send"),
 ]
 OF_CRATE = re.compile(r"Rattle·(\w+)(?:·specs)?\.specs\.([\w.\-]+?)\.\{([^}]*)\}")
 
