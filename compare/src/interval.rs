@@ -445,6 +445,13 @@ fn price(chance: &mut Chance) -> u32 {
     chance.pick(&[6000, 2000, dearest, 1, drawn, drawn]) as u32
 }
 
+/// Takes one off the largest.
+fn hold_back(powers: &mut [i64]) {
+    if let Some(power) = powers.iter_mut().max() {
+        *power -= 1;
+    }
+}
+
 /// Draws imports and exports that leave loads and generation sound.
 fn schedule(chance: &mut Chance, interval: &mut Interval) {
     let loads = interval.zones.iter().map(|z| i64::from(z.load + z.losses));
@@ -453,6 +460,9 @@ fn schedule(chance: &mut Chance, interval: &mut Interval) {
     for unit in &interval.units {
         generation[usize::from(unit.zone) - 1] += i64::from(unit.output);
     }
+    // One tenth of a MW stays, since final load and net generation must be above zero.
+    hold_back(&mut loads);
+    hold_back(&mut generation);
     for point in &mut interval.points {
         if chance.one_in(2) {
             continue;
@@ -462,8 +472,8 @@ fn schedule(chance: &mut Chance, interval: &mut Interval) {
         point.import = take(chance, &mut loads[zone]);
         point.export = take(chance, &mut generation[zone]);
     }
-    // One tenth of a MW stays, since final load must be above zero.
-    let (mut load, mut generation) = (loads.iter().sum::<i64>() - 1, generation.iter().sum());
+    // Final generation may be zero.
+    let (mut load, mut generation) = (loads.iter().sum(), generation.iter().sum::<i64>() + 1);
     for point in interval.points.iter_mut().filter(|point| point.place == 0) {
         point.import = take(chance, &mut load);
         point.export = take(chance, &mut generation);
