@@ -11,7 +11,7 @@ use borrow.Author.Tests.{eqb-true, eqb-false}
 use Rattle.fields.specs.Lists.{tab}
 use Rattle.fields.proofs.Lists.{length-tab}
 use Rattle.integers.proofs.Cases.{below-or}
-use Rattle.records.specs.Table.{bodyIn}
+use Rattle.record_table.specs.Table.{bodyIn}
 use Rattle.records.specs.Bodies.{headOf, zoneOf, unitOf, pointOf, parOf, factorOf}
 use Rattle.records.specs.Content.{countOf, onlyIf, noContent, withRecord}
 use Rattle.due_factors.specs.Due.{countsOf}

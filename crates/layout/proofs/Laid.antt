@@ -2,10 +2,10 @@
 use Prim.Native.Nat.{ℕ, _+_, _≤_, _<_}
 use mathlib.Core.Path.{_≡_, refl, sym, _∙_}
 use native.Mathlib.Omega.{arith}
-use Rattle.records.specs.Table.{bodyLength}
+use Rattle.record_table.specs.Table.{bodyLength}
 use Rattle.layout.specs.declared.Layout.{Layout}
 use Rattle.layout.specs.inner.Places.{count, counted, noRecords, firstOf, startOf, extent}
-use Rattle.records.proofs.ByKind.{kinds}
+use Rattle.record_table.proofs.ByKind.{kinds}
 use Rattle.layout.proofs.Places.{count-same, count-other, first-agree, first-flat}
 
 -- the records end at a place, and none is of a kind above `last`

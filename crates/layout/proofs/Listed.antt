@@ -10,7 +10,7 @@ use Rattle.name_index.proofs.Table.{none-indexed, begun-indexed}
 use Rattle.layout.specs.declared.Layout.{Layout}
 use Rattle.layout.specs.inner.Places.{count, counted, noRecords, firstOf}
 use Rattle.layout.specs.inner.Listed.{named, tableSize, runOf, Listed}
-use Rattle.records.proofs.ByKind.{kinds}
+use Rattle.record_table.proofs.ByKind.{kinds}
 use Rattle.layout.proofs.Places.{count-same, count-other, first-agree}
 use Rattle.layout.proofs.Laid.{Laid}
 

@@ -10,13 +10,13 @@ use Rattle.names.specs.Names.{nameAt, sameList, seenBefore}
 use Rattle.name_index.specs.inner.Index.{namesAt}
 use Rattle.fields.specs.Lists.{tab}
 use Rattle.fields.proofs.Lists.{map-tab, tab-same}
-use Rattle.records.specs.Table.{kindOf, bodyLength, bodyIn}
+use Rattle.record_table.specs.Table.{kindOf, bodyLength, bodyIn}
 use Rattle.records.specs.Bodies.{headOf, zoneOf, unitOf, pointOf, parOf}
 use Rattle.records.specs.Content.{namesOf}
 use Rattle.record_rows.specs.Rows.{repeats}
 use Rattle.layout.specs.declared.Layout.{Layout}
 use Rattle.layout.specs.inner.Places.{count, size, firstOf, startOf, bodyAt, contentAt}
-use Rattle.records.proofs.ByKind.{kinds, name-room}
+use Rattle.record_table.proofs.ByKind.{kinds, name-room}
 
 seen-snoc : (x : List ℕ) (l : List (List ℕ)) (y : List ℕ) → seenBefore (l ++ (y ∷ [])) x ≡ (seenBefore l x || sameList y x)
 unfolding seenBefore

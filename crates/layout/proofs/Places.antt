@@ -8,7 +8,7 @@ use borrow.Author.Tests.{ne-eqb}
 use Rattle.integers.proofs.Cases.{below-or}
 use Rattle.layout.specs.declared.Layout.{Layout}
 use Rattle.layout.specs.inner.Places.{one, count, counted, size, firstOf, startOf, extent}
-use Rattle.records.proofs.ByKind.{kinds}
+use Rattle.record_table.proofs.ByKind.{kinds}
 
 -- one more of a kind
 pub count-same : (l : Layout) (kind : ℕ) → 1 ≤ kind → kind ≤ 6 → count (counted l kind) kind ≡ count l kind + 1

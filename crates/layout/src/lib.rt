@@ -2,23 +2,22 @@
 ghost use mathlib.Core.Path.{_≡_};
 ghost use Prim.Native.Nat.{_+_, _*_, _≤_, _<_, _^_};
 ghost use lib.ListN.{length, drop};
-ghost use Rattle.records.specs.Table.{lastKind, bodyLength, bodyIn};
+ghost use Rattle.record_table.specs.Table.{lastKind, bodyLength, bodyIn};
 ghost use Rattle.record_rows.specs.Rows.{repeats};
 ghost use Rattle.layout.specs.inner.Places.{countsIn, one, count, counted, size, firstOf, startOf, extent, bodyAt, contentAt, Allowed};
 ghost use Rattle.layout.specs.inner.Listed.{named, mostNamed, runOf, Listed};
 ghost use Rattle.name_index.specs.inner.Index.{withNext};
 use due_factors::Counts;
 use name_index::Run;
-use records::bodies;
 
 // Of the index of names: its hashes are up to this.
 const MASK: usize = 511;
 
-const MOST_NAMED: usize = records::MOST_HEADS
-    + records::MOST_ZONES
-    + records::MOST_UNITS
-    + records::MOST_POINTS
-    + records::MOST_PARS;
+const MOST_NAMED: usize = record_table::MOST_HEADS
+    + record_table::MOST_ZONES
+    + record_table::MOST_UNITS
+    + record_table::MOST_POINTS
+    + record_table::MOST_PARS;
 
 // Of the table of the index: a place for each hash, for each name that is allowed, and for one too many.
 pub const TABLE_SIZE: usize = MASK + 1 + MOST_NAMED + 1;
@@ -60,7 +59,7 @@ pub fn counts_in(l: Layout) -> Counts
 fn size_of(kind: u8) -> usize
     ensures { λ r. ⌜ (r ≡ size kind) × (r ≤ 28) ⌝ }
 {
-    bodies::body_length(kind) + 1
+    record_table::body_length(kind) + 1
 }
 
 fn one_if(met: bool) -> usize
@@ -114,7 +113,7 @@ pub fn body_at(s: &[u8], l: Layout, kind: u8, i: usize) -> &[u8]
     ensures { λ r. ⌜ (now r ≡ bodyAt (now (s .entry)) l kind i) × (length (now r) ≡ bodyLength kind) ⌝ }
 {
     let from = first_of(l, kind) + size_of(kind) * i + 1;
-    &s[from..from + bodies::body_length(kind)]
+    &s[from..from + record_table::body_length(kind)]
 }
 
 fn named_of(l: Layout) -> usize

@@ -6,7 +6,7 @@ use lib.Dec.{eqb, leb, ltb}
 use borrow.Author.Tests.{le-ltb, ltb-false, leb-false, eq-eqb}
 use Rattle.rows.specs.Rows.{row, cutShort}
 use Rattle.rows.proofs.NotMet.{row-pass, neither, within}
-use Rattle.records.specs.Table.{lastKind, bodyLength}
+use Rattle.record_table.specs.Table.{lastKind, bodyLength}
 use Rattle.record_rows.specs.Rows.{unknownKind, outOfOrder, oneTooMany, frontRow}
 
 pub record Fronted (last kind earlier left : ℕ) : Type 0 where

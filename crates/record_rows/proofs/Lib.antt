@@ -1,3 +1,2 @@
-pub mod SignedBounds
 pub mod FrontRows
 pub mod Passes

@@ -22,8 +22,9 @@ use Rattle.records.specs.declared.Point.{Point}
 use Rattle.records.specs.declared.Par.{Par}
 use Rattle.records.specs.declared.Factor.{Factor}
 use Rattle.records.specs.Content.{bears}
+use Rattle.field_rows.specs.FieldRows.{noRto, noType, noZoneOf, placeUnknown, headOutside, zoneOutside, unitOutside, pointOutside, parOutside, factorOutside}
 use Rattle.record_rows.specs.inner.Valid.{HeadFits, ZoneFits, UnitFits, LineFits, PointFits, ParFits}
-use Rattle.record_rows.specs.Rows.{noRto, noType, noZoneOf, placeUnknown, headOutside, zoneOutside, unitOutside, pointOutside, parOutside, notDue, factorOutside, headRow, zoneRow, unitRow, pointRow, parRow, factorRow}
+use Rattle.record_rows.specs.Rows.{notDue, headRow, zoneRow, unitRow, pointRow, parRow, factorRow}
 
 -- one of two codes
 listed : (x a b low high : ℕ) → not (eqb x a || eqb x b) ≡ false → low ≤ a → a ≤ high → low ≤ b → b ≤ high → (low ≤ x) × (x ≤ high)

@@ -1,26 +1,24 @@
 -- Rows 1 to 13, in the table's order (document 01, 'Where each refusal is checked'). Below, c is the content of the records before the one in question.
 use Prim.Native.Nat.{ℕ}
-use mathlib.Core.Bool.{Bool, false, not, _&&_, _||_}
+use mathlib.Core.Bool.{Bool, not, _&&_, _||_}
 use mathlib.Core.List.{List, [], _∷_}
 use lib.Dec.{eqb, leb, ltb}
 use lib.ListN.{length, getD}
-use Rattle.rows.specs.Rows.{row, outside, beyond, cutShort}
+use Rattle.rows.specs.Rows.{row, outside, cutShort}
 use Rattle.names.specs.Names.{badName, seenBefore, nameAt}
 use Rattle.records.specs.declared.Head.{Head}
 use Rattle.records.specs.declared.Zone.{Zone}
 use Rattle.records.specs.declared.Unit.{Unit}
-use Rattle.records.specs.declared.Place.{Place}
-use Rattle.records.specs.declared.Place.the-variants.{Proxy, Line}
 use Rattle.records.specs.declared.Point.{Point}
 use Rattle.records.specs.declared.Par.{Par}
 use Rattle.records.specs.declared.Factor.{Factor}
-use Rattle.records.specs.Codes.{nyiso, pjm, common, noncommon}
-use Rattle.records.specs.Table.{byKind, kindOf, lastKind, bodyLength, bodyIn}
+use Rattle.record_table.specs.Table.{byKind, kindOf, lastKind, bodyLength, bodyIn}
 use Rattle.records.specs.Bodies.{headOf, zoneOf, unitOf, pointOf, parOf, factorOf}
 use Rattle.records.specs.Content.{Content, countOf, namesOf, bears}
 use Rattle.due_factors.specs.declared.Counts.{Counts}
 use Rattle.due_factors.specs.declared.Due.{Due}
 use Rattle.due_factors.specs.Due.{countsOf, dueList, due, noDue}
+use Rattle.field_rows.specs.FieldRows.{noRto, noType, noZoneOf, placeUnknown, headOutside, zoneOutside, unitOutside, pointOutside, parOutside, factorOutside}
 
 -- row 1: sheet empty, or first byte not 1
 unfoldable pub firstRow : List ℕ → ℕ
@@ -51,46 +49,10 @@ frontRow last kind earlier left below =
 abbrev pub repeats : Content → ℕ → List ℕ → Bool
 repeats c kind b = seenBefore (namesOf c kind) (nameAt b 0)
 
--- row 8: RTO not listed; type or class not listed
-abbrev pub noRto : ℕ → Bool
-noRto code = not (eqb code nyiso || eqb code pjm)
-
-abbrev pub noType : ℕ → Bool
-noType code = not (eqb code common || eqb code noncommon)
-
--- row 8: a zone number 0 or above the count
-abbrev pub noZoneOf : ℕ → ℕ → Bool
-noZoneOf zones n = outside 1 n zones
-
--- row 8: the place's zone number, where it is a scheduled line
-abbrev pub placeUnknown : ℕ → Place → Bool
-placeUnknown zones Proxy = false
-placeUnknown zones (Line n) = noZoneOf zones n
-
--- row 9: number fields outside their ranges
-abbrev pub headOutside : Head → Bool
-headOutside h = outside 1 (h .seconds) 900 || (ltb 400000 (h .«monitoring_price») || ltb 400000 (h .«nonmonitoring_price»))
-
-abbrev pub zoneOutside : Zone → Bool
-zoneOutside z = ltb 2000000 (z .load) || ltb 2000000 (z .losses)
-
-abbrev pub unitOutside : Unit → Bool
-unitOutside u = ltb 2000000 (u .output)
-
-abbrev pub pointOutside : Point → Bool
-pointOutside p = ltb 200000 (p .import) || ltb 200000 (p .export)
-
-abbrev pub parOutside : Par → Bool
-parOutside p = beyond 200000 (p .actual) || beyond 200000 (p .target)
-
 -- row 10: target, subject, index not the ones due, or none due. `due` lists what is due, of which `earlier` are there already
 abbrev pub notDue : List Due → ℕ → Factor → Bool
 notDue due earlier f =
     leb (length due) earlier || not (bears f (getD due earlier noDue .target) (getD due earlier noDue .subject) (getD due earlier noDue .index))
-
--- row 11: factor outside ±10,000
-abbrev pub factorOutside : Factor → Bool
-factorOutside f = beyond 10000 (f .factor)
 
 -- A record's rows by its fields. `repeated` is row 7; a sheet's one head has no other before it
 unfoldable pub headRow : Head → ℕ

@@ -1,98 +1,31 @@
 // Rows 2 to 13 of an interval sheet, by a record's fields and by how many records of each kind there are.
 ghost use mathlib.Core.Path.{_≡_};
 ghost use mathlib.Core.Bool.{not};
-ghost use Rattle.rows.specs.Rows.{row, outside, beyond};
+ghost use Rattle.rows.specs.Rows.{row};
 ghost use Rattle.names.specs.Names.{nameOk};
 ghost use Rattle.records.specs.Content.{bears};
 ghost use Rattle.due_factors.specs.Due.{dueList};
 ghost use Rattle.due_factors.specs.inner.Places.{Few};
-ghost use Rattle.record_rows.specs.Rows.{unknownKind, outOfOrder, oneTooMany, frontRow, noRto, noType, noZoneOf, placeUnknown, headRow, zoneRow, unitRow, pointRow, parRow, factorRow, endRow};
+ghost use Rattle.record_rows.specs.Rows.{unknownKind, outOfOrder, oneTooMany, frontRow, headRow, zoneRow, unitRow, pointRow, parRow, factorRow, endRow};
 use due_factors::Counts;
 use due_factors::Due;
 use records::Factor;
 use records::Head;
 use records::Par;
-use records::Place;
 use records::Point;
 use records::Unit;
 use records::Zone;
-use records::bodies;
 use rows::row;
-
-const MOST_SECONDS: usize = 900;
-
-const MOST_PRICE: u32 = 400_000;
-
-// Of a load, losses or an output, in tenths of a MW.
-const MOST_POWER: u32 = 2_000_000;
-
-// Of a schedule or a PAR's flow.
-const MOST_FLOW: u32 = 200_000;
-
-const MOST_FACTOR: u32 = 10_000;
 
 // Rows 2 to 5 of a record of a kind with `left` bytes behind its kind byte: `last` is the kind of the one before, `earlier` how many of its own kind stand before.
 pub fn front_row(last: u8, kind: u8, earlier: usize, left: usize) -> u8
     ensures { λ r. ⌜ r ≡ frontRow last kind earlier left 0 ⌝ }
 {
     let unknown = (kind < 1) | (6 < kind);
-    let short = left < bodies::body_length(kind);
+    let short = left < record_table::body_length(kind);
     let falls = (kind < last) | ((kind == 1) & (1 <= earlier));
-    let surplus = !((kind < 2) | (5 < kind)) & (bodies::most_of(kind) <= earlier);
+    let surplus = !((kind < 2) | (5 < kind)) & (record_table::most_of(kind) <= earlier);
     row(2, unknown, row(3, short, row(4, falls, row(5, surplus, 0))))
-}
-
-fn outside(low: usize, n: usize, high: usize) -> bool
-    ensures { λ r. ⌜ r ≡ outside low n high ⌝ }
-{
-    (n < low) | (high < n)
-}
-
-// Outside ± most.
-fn beyond(most: u32, z: i64) -> bool
-    ensures { λ r. ⌜ r ≡ beyond most z ⌝ }
-{
-    let high = most as i64;
-    (z < -high) | (high < z)
-}
-
-fn power_beyond(z: i32) -> bool
-    ensures { λ r. ⌜ r ≡ beyond 200000 z ⌝ }
-{
-    beyond(MOST_FLOW, z as i64)
-}
-
-pub fn factor_beyond(z: i16) -> bool
-    ensures { λ r. ⌜ r ≡ beyond 10000 z ⌝ }
-{
-    beyond(MOST_FACTOR, z as i64)
-}
-
-fn no_rto(code: u8) -> bool
-    ensures { λ r. ⌜ r ≡ noRto code ⌝ }
-{
-    !((code == records::NYISO) | (code == records::PJM))
-}
-
-fn no_type(code: u8) -> bool
-    ensures { λ r. ⌜ r ≡ noType code ⌝ }
-{
-    !((code == records::COMMON) | (code == records::NON_COMMON))
-}
-
-fn no_zone_of(zones: usize, n: u8) -> bool
-    ensures { λ r. ⌜ r ≡ noZoneOf zones n ⌝ }
-{
-    outside(1, n as usize, zones)
-}
-
-fn place_unknown(zones: usize, place: Place) -> bool
-    ensures { λ r. ⌜ r ≡ placeUnknown zones place ⌝ }
-{
-    match place {
-        Place::Proxy => false,
-        Place::Line(n) => no_zone_of(zones, n),
-    }
 }
 
 // Rows 6 and 7, then those below. Here and below, `well` is whether the name is well formed.
@@ -106,9 +39,8 @@ pub fn head_row(well: bool, h: Head) -> u8
     requires { ⌜ well ≡ nameOk (h .name) ⌝ }
     ensures { λ r. ⌜ r ≡ headRow h ⌝ }
 {
-    let codes = no_rto(h.monitoring_rto);
-    let prices = (MOST_PRICE < h.monitoring_price) | (MOST_PRICE < h.nonmonitoring_price);
-    let numbers = outside(1, h.seconds as usize, MOST_SECONDS) | prices;
+    let codes = field_rows::no_rto(h.monitoring_rto);
+    let numbers = field_rows::head_outside(h);
     name_rows(well, false, row(8, codes, row(9, numbers, 0)))
 }
 
@@ -116,7 +48,7 @@ pub fn zone_row(well: bool, repeated: bool, z: Zone) -> u8
     requires { ⌜ well ≡ nameOk (z .name) ⌝ }
     ensures { λ r. ⌜ r ≡ zoneRow repeated z ⌝ }
 {
-    let numbers = (MOST_POWER < z.load) | (MOST_POWER < z.losses);
+    let numbers = field_rows::zone_outside(z);
     name_rows(well, repeated, row(9, numbers, 0))
 }
 
@@ -124,8 +56,8 @@ pub fn unit_row(well: bool, zones: usize, repeated: bool, u: Unit) -> u8
     requires { ⌜ well ≡ nameOk (u .name) ⌝ }
     ensures { λ r. ⌜ r ≡ unitRow zones repeated u ⌝ }
 {
-    let codes = no_zone_of(zones, u.zone);
-    let numbers = MOST_POWER < u.output;
+    let codes = field_rows::no_zone_of(zones, u.zone);
+    let numbers = field_rows::unit_outside(u);
     name_rows(well, repeated, row(8, codes, row(9, numbers, 0)))
 }
 
@@ -134,8 +66,8 @@ pub fn point_row(well: bool, zones: usize, repeated: bool, p: Point) -> u8
     ensures { λ r. ⌜ r ≡ pointRow zones repeated p ⌝ }
 {
     let place = p.place;
-    let codes = no_type(p.sort) | place_unknown(zones, place);
-    let numbers = (MOST_FLOW < p.import) | (MOST_FLOW < p.export);
+    let codes = field_rows::no_type(p.sort) | field_rows::place_unknown(zones, place);
+    let numbers = field_rows::point_outside(p);
     name_rows(well, repeated, row(8, codes, row(9, numbers, 0)))
 }
 
@@ -143,8 +75,8 @@ pub fn par_row(well: bool, repeated: bool, p: Par) -> u8
     requires { ⌜ well ≡ nameOk (p .name) ⌝ }
     ensures { λ r. ⌜ r ≡ parRow repeated p ⌝ }
 {
-    let codes = no_type(p.class);
-    let numbers = power_beyond(p.actual) | power_beyond(p.target);
+    let codes = field_rows::no_type(p.class);
+    let numbers = field_rows::par_outside(p);
     name_rows(well, repeated, row(8, codes, row(9, numbers, 0)))
 }
 
@@ -164,7 +96,11 @@ pub fn factor_row(n: Counts, earlier: usize, f: Factor) -> u8
         return 10;
     }
     let d = due_factors::due_at(n, earlier);
-    row(10, !bears(f, d), row(11, factor_beyond(f.factor), 0))
+    row(
+        10,
+        !bears(f, d),
+        row(11, field_rows::factor_beyond(f.factor), 0),
+    )
 }
 
 // Rows 12 and 13.

@@ -13,7 +13,7 @@ use Rattle.records.specs.declared.Place.the-variants.{Proxy, Line}
 use Rattle.records.specs.declared.Point.{Point}
 use Rattle.records.specs.declared.Par.{Par}
 use Rattle.records.specs.declared.Factor.{Factor}
-use Rattle.records.specs.Table.{fieldAt, headKind, zoneKind, unitKind, pointKind, parKind, factorKind}
+use Rattle.record_table.specs.Table.{fieldAt, headKind, zoneKind, unitKind, pointKind, parKind, factorKind}
 
 -- a point's place: a proxy (0), or a scheduled line that ends in the zone of that number
 abbrev pub placeOf : ℕ → Place

@@ -12,7 +12,7 @@ use Rattle.records.specs.declared.Place.the-variants.{Proxy}
 use Rattle.records.specs.declared.Point.{Point}
 use Rattle.records.specs.declared.Par.{Par}
 use Rattle.records.specs.declared.Factor.{Factor}
-use Rattle.records.specs.Table.{byKind}
+use Rattle.record_table.specs.Table.{byKind}
 use Rattle.records.specs.Bodies.{headOf, zoneOf, unitOf, pointOf, parOf, factorOf}
 
 -- an accepted sheet has one head

@@ -1,4 +1,3 @@
 pub mod Codes
-pub mod Table
 pub mod Bodies
 pub mod Content

@@ -3,7 +3,7 @@ ghost use mathlib.Core.Path.{_≡_};
 ghost use Prim.Native.Nat.{_≤_};
 ghost use lib.ListN.{length};
 ghost use Rattle.names.specs.Names.{nameAt};
-ghost use Rattle.records.specs.Table.{bodyLength, kindOf};
+ghost use Rattle.record_table.specs.Table.{bodyLength};
 ghost use Rattle.records.specs.Bodies.{placeOf, headOf, zoneOf, unitOf, pointOf, parOf, factorOf};
 use super::Factor;
 use super::Head;
@@ -12,33 +12,6 @@ use super::Place;
 use super::Point;
 use super::Unit;
 use super::Zone;
-
-pub fn body_length(kind: u8) -> usize
-    ensures { λ r. ⌜ r ≡ bodyLength kind ⌝ }
-{
-    match kind {
-        1 => 27,
-        2 => 24,
-        3 => 21,
-        4 => 26,
-        5 => 25,
-        6 => super::FACTOR_BODY,
-        _ => 0,
-    }
-}
-
-pub fn most_of(kind: u8) -> usize
-    ensures { λ r. ⌜ r ≡ kindOf kind .most ⌝ }
-{
-    match kind {
-        1 => super::MOST_HEADS,
-        2 => super::MOST_ZONES,
-        3 => super::MOST_UNITS,
-        4 => super::MOST_POINTS,
-        5 => super::MOST_PARS,
-        _ => 0,
-    }
-}
 
 fn name_of(b: &[u8]) -> [u8; 16]
     requires { ⌜ 16 ≤ length (now b) ⌝ }

@@ -1,32 +1,5 @@
 // The records of an interval sheet (document 01, 'The interval sheet').
 
-// The kinds.
-pub const HEAD_KIND: u8 = 1;
-
-pub const ZONE_KIND: u8 = 2;
-
-pub const UNIT_KIND: u8 = 3;
-
-pub const POINT_KIND: u8 = 4;
-
-pub const PAR_KIND: u8 = 5;
-
-pub const FACTOR_KIND: u8 = 6;
-
-// How many bytes a factor's body has.
-pub const FACTOR_BODY: usize = 6;
-
-// How many records of a kind there may be.
-pub const MOST_HEADS: usize = 1;
-
-pub const MOST_ZONES: usize = 32;
-
-pub const MOST_UNITS: usize = 256;
-
-pub const MOST_POINTS: usize = 32;
-
-pub const MOST_PARS: usize = 8;
-
 // The Monitoring RTO.
 pub const NYISO: u8 = 1;
 

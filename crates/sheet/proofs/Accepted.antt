@@ -14,7 +14,7 @@ use Rattle.fields.specs.Fields.{byteAt}
 use Rattle.integers.proofs.Cases.{below-or}
 use Rattle.fields.proofs.Lists.{getD-tab}
 use Rattle.rows.proofs.NotMet.{row-pass, neither}
-use Rattle.records.specs.Table.{bodyIn}
+use Rattle.record_table.specs.Table.{bodyIn}
 use Rattle.records.specs.Bodies.{headOf, zoneOf, unitOf, pointOf, parOf, factorOf}
 use Rattle.records.specs.Content.{Content, onlyIf, withRecord, noHead, noZone, noUnit, noPoint, noPar, noFactor, head, zone, unit, point, par, factorFor}
 use Rattle.due_factors.specs.Due.{noDue, key, Asked}

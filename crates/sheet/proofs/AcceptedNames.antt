@@ -12,7 +12,7 @@ use Rattle.records.specs.declared.Unit.{Unit}
 use Rattle.records.specs.declared.Point.{Point}
 use Rattle.records.specs.declared.Par.{Par}
 use Rattle.records.specs.Content.{Content, namesOf, noName, noHead, noZone, noUnit, noPoint, noPar}
-use Rattle.records.proofs.ByKind.{kinds}
+use Rattle.record_table.proofs.ByKind.{kinds}
 use Rattle.record_rows.specs.inner.Valid.{NamesFit}
 use Rattle.layout.specs.declared.Layout.{Layout}
 use Rattle.sheet.specs.declared.Outcome.the-variants.{Accepted}

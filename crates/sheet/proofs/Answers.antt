@@ -11,7 +11,7 @@ use lib.Seq.{drop-drop, getD-drop}
 use borrow.Author.Tests.{lt-ltb, le-ltb, eqb-true, eqb-false}
 use Rattle.fields.specs.Fields.{byteAt}
 use Rattle.rows.specs.Rows.{row}
-use Rattle.records.specs.Table.{bodyLength, bodyIn}
+use Rattle.record_table.specs.Table.{bodyLength, bodyIn}
 use Rattle.records.specs.Content.{Content, noContent, withRecord}
 use Rattle.record_rows.specs.Rows.{firstRow, recordRow, lastRow}
 use Rattle.layout.specs.declared.Layout.{Layout}

@@ -8,7 +8,7 @@ use lib.ListN.{length, drop, getD, length-drop}
 use lib.Seq.{getD-take, getD-drop}
 use borrow.Author.Tests.{eq-eqb, le-ltb, lt-leb}
 use Rattle.fields.specs.Fields.{byteAt, be16, sbe16}
-use Rattle.records.specs.Table.{bodyIn}
+use Rattle.record_table.specs.Table.{bodyIn}
 use Rattle.records.specs.Bodies.{factorOf}
 use Rattle.records.specs.Content.{countOf, bears}
 use Rattle.due_factors.specs.declared.Due.{Due}

@@ -9,9 +9,9 @@ use lib.Seq.{take-all, take-nil, take-take, getD-take, length-take-le}
 use borrow.Author.Tests.{lt-ltb, le-ltb}
 use Rattle.fields.specs.Fields.{byteAt}
 use Rattle.integers.proofs.Cases.{below-or}
-use Rattle.records.specs.Table.{bodyLength, bodyIn}
+use Rattle.record_table.specs.Table.{bodyLength, bodyIn}
 use Rattle.records.specs.Content.{Content, noContent}
-use Rattle.records.proofs.ByKind.{length-most}
+use Rattle.record_table.proofs.ByKind.{length-most}
 use Rattle.due_factors.proofs.DueList.{length-due, per-most}
 use Rattle.record_rows.specs.Rows.{recordRow, frontRow, firstRow}
 use Rattle.layout.specs.declared.Layout.{Layout}

@@ -9,7 +9,7 @@ use lib.ListN.{length, drop, length-append, length-drop}
 use borrow.Author.Tests.{eqb-true, leb-false}
 use Rattle.fields.specs.Fields.{byteAt}
 use Rattle.rows.specs.Rows.{row, cutShort}
-use Rattle.records.specs.Table.{bodyLength, bodyIn}
+use Rattle.record_table.specs.Table.{bodyLength, bodyIn}
 use Rattle.records.specs.Bodies.{headOf, zoneOf, unitOf, pointOf, parOf, factorOf}
 use Rattle.records.specs.Content.{Content, noContent, countOf, onlyIf, withRecord}
 use Rattle.record_rows.specs.Rows.{factorRow, repeats, recordRow, bodyRow}

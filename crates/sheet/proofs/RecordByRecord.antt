@@ -8,7 +8,7 @@ use lib.ListN.{length, drop, drop-of-length-le}
 use lib.Seq.{drop-drop, drop-cons}
 use borrow.Author.Tests.{eq-eqb, ne-eqb}
 use Rattle.fields.specs.Fields.{byteAt}
-use Rattle.records.specs.Table.{bodyLength, bodyIn}
+use Rattle.record_table.specs.Table.{bodyLength, bodyIn}
 use Rattle.records.specs.Content.{Content, countOf, noContent, withRecord}
 use Rattle.record_rows.specs.Rows.{recordRow, lastRow, firstRow}
 use Rattle.record_rows.proofs.FrontRows.{Fronted, front-pass}

@@ -17,7 +17,7 @@ use Rattle.records.specs.declared.Unit.{Unit}
 use Rattle.records.specs.declared.Point.{Point}
 use Rattle.records.specs.declared.Par.{Par}
 use Rattle.records.specs.declared.Factor.{Factor}
-use Rattle.records.specs.Table.{bodyIn}
+use Rattle.record_table.specs.Table.{bodyIn}
 use Rattle.records.specs.Bodies.{headOf, zoneOf, unitOf, pointOf, parOf, factorOf}
 use Rattle.records.specs.Content.{Content, noContent, onlyIf, withRecord, namesOf, noHead, noZone, noUnit, noPoint, noPar, noFactor}
 use Rattle.record_rows.specs.Rows.{repeats, recordRow, bodyRow}

@@ -10,7 +10,7 @@ use borrow.Author.Tests.{lt-ltb, le-ltb}
 use Rattle.fields.specs.Fields.{byteAt}
 use Rattle.integers.proofs.Cases.{below-or}
 use Rattle.rows.specs.Rows.{row}
-use Rattle.records.specs.Table.{bodyLength}
+use Rattle.record_table.specs.Table.{bodyLength}
 use Rattle.records.specs.Content.{Content}
 use Rattle.due_factors.specs.Due.{countsOf}
 use Rattle.record_rows.specs.Rows.{unknownKind, frontRow, noZoneOrUnit, stillDue, recordRow, lastRow, endRow, firstRow}

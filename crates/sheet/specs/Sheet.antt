@@ -3,7 +3,7 @@ use Prim.Native.Nat.{ℕ, zero, suc, _+_}
 use mathlib.Core.Bool.{cond}
 use mathlib.Core.List.{List, [], _∷_}
 use lib.Dec.{eqb}
-use Rattle.records.specs.Table.{bodyLength, bodyIn}
+use Rattle.record_table.specs.Table.{bodyLength, bodyIn}
 use Rattle.records.specs.Content.{Content, noContent, withRecord}
 use Rattle.record_rows.specs.Rows.{firstRow, recordRow, lastRow}
 use Rattle.layout.specs.Layout.{layoutOf}

@@ -6,7 +6,7 @@ ghost use lib.ListN.{length, drop};
 ghost use mathlib.Core.Bool.{true};
 ghost use Rattle.fields.specs.Fields.{byteAt};
 ghost use Rattle.rows.specs.Rows.{row, cutShort};
-ghost use Rattle.records.specs.Table.{bodyLength, bodyIn};
+ghost use Rattle.record_table.specs.Table.{bodyLength, bodyIn};
 ghost use Rattle.records.specs.Bodies.{factorOf};
 ghost use Rattle.records.specs.Content.{Content};
 ghost use Rattle.record_rows.specs.Rows.{factorRow, bodyRow, recordRow};
@@ -17,8 +17,8 @@ ghost use Rattle.sheet.specs.inner.Passed.{Passed};
 ghost use Rattle.sheet.specs.inner.GoodFactors.{keyOf, Good, lesser};
 use layout::Layout;
 use layout::counts_in;
-use records::FACTOR_BODY;
-use records::FACTOR_KIND;
+use record_table::FACTOR_BODY;
+use record_table::FACTOR_KIND;
 use records::bodies;
 
 // How many bytes a factor's record has: one of kind, then the body.
@@ -79,7 +79,7 @@ fn record_row(s: &[u8], l: Layout, last: u8, at: usize, table: &mut [u16]) -> u8
         return front;
     }
     let repeated = layout::repeated(s, l, kind, at, table);
-    let to = from + bodies::body_length(kind);
+    let to = from + record_table::body_length(kind);
     named_row(l.zones, kind, repeated, &s[from..to])
 }
 
@@ -89,7 +89,7 @@ fn good_factor(s: &[u8], at: usize, key: u32) -> bool
     ensures { λ r. ⌜ (r ≡ true → Good (now (s .entry)) at key) ⌝ }
 {
     let due = (s[at] == FACTOR_KIND) & (fields::be32_at(s, at + 1) == key);
-    due & !record_rows::factor_beyond(fields::sbe16_at(s, at + 5))
+    due & !field_rows::factor_beyond(fields::sbe16_at(s, at + 5))
 }
 
 fn lesser(a: usize, b: usize) -> usize
@@ -159,7 +159,7 @@ pub fn read(s: &[u8]) -> Outcome
     if s.len() == 0 {
         return Outcome::Refused(1, 0);
     }
-    if s[0] != records::HEAD_KIND {
+    if s[0] != record_table::HEAD_KIND {
         return Outcome::Refused(1, 0);
     }
     let mut l = Layout {
@@ -180,7 +180,7 @@ pub fn read(s: &[u8]) -> Outcome
         }
         last = s[at];
         l = layout::counted(l, last);
-        at = at + 1 + bodies::body_length(last);
+        at = at + 1 + record_table::body_length(last);
         let past = past_factors(s, l, last, at);
         l = past.l;
         at = past.at;

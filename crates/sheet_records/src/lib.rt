@@ -13,35 +13,35 @@ pub fn head_at(s: &[u8], l: Layout) -> records::Head
     requires { ⌜ readSheet (now s) ≡ Accepted l ⌝ }
     ensures { λ r. ⌜ r ≡ head (contentOf (now (s .entry))) ⌝ }
 {
-    bodies::head_of(layout::body_at(s, l, records::HEAD_KIND, 0))
+    bodies::head_of(layout::body_at(s, l, record_table::HEAD_KIND, 0))
 }
 
 pub fn zone_at(s: &[u8], l: Layout, i: usize) -> records::Zone
     requires { ⌜ (readSheet (now s) ≡ Accepted l) × (i < l .zones) ⌝ }
     ensures { λ r. ⌜ r ≡ zone (contentOf (now (s .entry))) i ⌝ }
 {
-    bodies::zone_of(layout::body_at(s, l, records::ZONE_KIND, i))
+    bodies::zone_of(layout::body_at(s, l, record_table::ZONE_KIND, i))
 }
 
 pub fn unit_at(s: &[u8], l: Layout, i: usize) -> records::Unit
     requires { ⌜ (readSheet (now s) ≡ Accepted l) × (i < l .units) ⌝ }
     ensures { λ r. ⌜ r ≡ unit (contentOf (now (s .entry))) i ⌝ }
 {
-    bodies::unit_of(layout::body_at(s, l, records::UNIT_KIND, i))
+    bodies::unit_of(layout::body_at(s, l, record_table::UNIT_KIND, i))
 }
 
 pub fn point_at(s: &[u8], l: Layout, i: usize) -> records::Point
     requires { ⌜ (readSheet (now s) ≡ Accepted l) × (i < l .points) ⌝ }
     ensures { λ r. ⌜ r ≡ point (contentOf (now (s .entry))) i ⌝ }
 {
-    bodies::point_of(layout::body_at(s, l, records::POINT_KIND, i))
+    bodies::point_of(layout::body_at(s, l, record_table::POINT_KIND, i))
 }
 
 pub fn par_at(s: &[u8], l: Layout, i: usize) -> records::Par
     requires { ⌜ (readSheet (now s) ≡ Accepted l) × (i < l .pars) ⌝ }
     ensures { λ r. ⌜ r ≡ par (contentOf (now (s .entry))) i ⌝ }
 {
-    bodies::par_of(layout::body_at(s, l, records::PAR_KIND, i))
+    bodies::par_of(layout::body_at(s, l, record_table::PAR_KIND, i))
 }
 
 // The factor of the i-th of a subject on a target.
@@ -50,6 +50,6 @@ pub fn factor_at(s: &[u8], l: Layout, target: usize, subject: u8, i: usize) -> i
     ensures { λ r. ⌜ r ≡ factorFor (contentOf (now (s .entry)) .factors) target subject (i + 1) ⌝ }
 {
     let n = due_factors::place_of(counts_in(l), target, subject, i);
-    let f = bodies::factor_of(layout::body_at(s, l, records::FACTOR_KIND, n));
+    let f = bodies::factor_of(layout::body_at(s, l, record_table::FACTOR_KIND, n));
     f.factor as i64
 }

@@ -5,7 +5,7 @@ use mathlib.Core.List.{List, [], _∷_}
 use lib.Dec.{eqb, ltb}
 use lib.ListN.{getD, drop}
 use Rattle.records.specs.Codes.{unitSubject, zoneSubject, pointSubject}
-use Rattle.records.specs.Table.{zoneKind, unitKind, pointKind, parKind}
+use Rattle.record_table.specs.Table.{zoneKind, unitKind, pointKind, parKind}
 use Rattle.due_factors.specs.declared.Counts.{Counts}
 use Rattle.due_factors.specs.declared.Due.{Due}
 use Rattle.due_factors.specs.declared.Standing.{Standing}

@@ -1,7 +1,7 @@
 -- `count_of` meets its contract.
 use mathlib.Core.Path.{refl, sym}
 use borrow.Author.Needs.{needs}
-use Rattle.records.proofs.ByKind.{another}
+use Rattle.record_table.proofs.ByKind.{another}
 use Rattle.layout.specs.inner.Places.{counts}
 use Rattle.layout.proofs.count_of.Statement.{statement}
 use Rattle.layout.proofs.count_of.Tie as tie

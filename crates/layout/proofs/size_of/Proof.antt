@@ -1,7 +1,7 @@
 -- `size_of` meets its contract.
 use native.Mathlib.Omega.{arith}
 use borrow.Author.Needs.{needs}
-use Rattle.records.proofs.ByKind.{length-most}
+use Rattle.record_table.proofs.ByKind.{length-most}
 use Rattle.layout.proofs.size_of.Statement.{statement}
 use Rattle.layout.proofs.size_of.Tie as tie
 

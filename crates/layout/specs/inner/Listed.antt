@@ -3,7 +3,7 @@ use Prim.Native.Nat.{ℕ, _+_, _-_, _≤_}
 use mathlib.Core.Path.{_≡_}
 use mathlib.Core.List.{List}
 use lib.ListN.{length}
-use Rattle.records.specs.Table.{headKind, zoneKind, unitKind, pointKind, parKind}
+use Rattle.record_table.specs.Table.{headKind, zoneKind, unitKind, pointKind, parKind}
 use Rattle.name_index.specs.declared.Run.{Run}
 use Rattle.name_index.specs.inner.Index.{Indexed}
 use Rattle.layout.specs.declared.Layout.{Layout}

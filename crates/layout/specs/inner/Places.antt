@@ -5,7 +5,7 @@ use mathlib.Core.List.{List, [], _∷_}
 use lib.Dec.{eqb}
 use lib.ListN.{drop}
 use Rattle.fields.specs.Lists.{tab}
-use Rattle.records.specs.Table.{byKind, headKind, lastKind, bodyLength, bodyIn}
+use Rattle.record_table.specs.Table.{byKind, headKind, lastKind, bodyLength, bodyIn}
 use Rattle.records.specs.Bodies.{headOf, zoneOf, unitOf, pointOf, parOf, factorOf}
 use Rattle.records.specs.Content.{Content}
 use Rattle.due_factors.specs.declared.Counts.{Counts}

@@ -7,11 +7,8 @@ use Rattle.record_rows.proofs.head_row.Tie as tie
 no-rto-requires : tie.Need-no-rto-requires
 no-rto-requires c κs = search needs
 
-cast-outside : tie.Need-cast-outside
-cast-outside c = search needs
-
-outside-requires : tie.Need-outside-requires
-outside-requires c κs = search needs
+head-outside-requires : tie.Need-head-outside-requires
+head-outside-requires c κs = search needs
 
 row-requires : tie.Need-row-requires
 row-requires c κs = search needs
@@ -26,17 +23,9 @@ returns : tie.Need-returns
 unfolding headRow
 returns c =
     let n = c .before .before .before in
-    let u = n .before .before .before .before in
-    rw (c .name-rows .ensures, c .before .row2 .ensures, c .before .before .row .ensures, n .outside .ensures, u .no-rto .ensures, u .before .pre)
+    let u = n .before in
+    rw (c .name-rows .ensures, c .before .row2 .ensures, c .before .before .row .ensures, n .head-outside .ensures, u .no-rto .ensures, u .before .pre)
 
 pub head-row-spec : {M : Type 1} → statement M
 head-row-spec =
-    tie.close
-    (tie.spec
-    no-rto-requires
-    cast-outside
-    outside-requires
-    row-requires
-    row-requires-2
-    name-rows-requires
-    returns)
+    tie.close (tie.spec no-rto-requires head-outside-requires row-requires row-requires-2 name-rows-requires returns)

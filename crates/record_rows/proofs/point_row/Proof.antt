@@ -10,6 +10,9 @@ no-type-requires c κs = search needs
 place-unknown-requires : tie.Need-place-unknown-requires
 place-unknown-requires c κs = search needs
 
+point-outside-requires : tie.Need-point-outside-requires
+point-outside-requires c κs = search needs
+
 row-requires : tie.Need-row-requires
 row-requires c κs = search needs
 
@@ -22,8 +25,9 @@ name-rows-requires c κs = search needs
 returns : tie.Need-returns
 unfolding pointRow
 returns c =
-    let p = c .before .before .before .before .before in
-    rw (c .name-rows .ensures, c .before .row2 .ensures, c .before .before .row .ensures, p .place-unknown .ensures, p .before .no-type .ensures, p .before .before .pre)
+    let n = c .before .before .before in
+    let p = n .before in
+    rw (c .name-rows .ensures, c .before .row2 .ensures, c .before .before .row .ensures, n .point-outside .ensures, p .place-unknown .ensures, p .before .no-type .ensures, p .before .before .pre)
 
 pub point-row-spec : {M : Type 1} → statement M
 point-row-spec =
@@ -31,6 +35,7 @@ point-row-spec =
     (tie.spec
     no-type-requires
     place-unknown-requires
+    point-outside-requires
     row-requires
     row-requires-2
     name-rows-requires

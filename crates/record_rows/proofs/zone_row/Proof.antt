@@ -4,6 +4,9 @@ use Rattle.record_rows.specs.Rows.{zoneRow}
 use Rattle.record_rows.proofs.zone_row.Statement.{statement}
 use Rattle.record_rows.proofs.zone_row.Tie as tie
 
+zone-outside-requires : tie.Need-zone-outside-requires
+zone-outside-requires c κs = search needs
+
 row-requires : tie.Need-row-requires
 row-requires c κs = search needs
 
@@ -12,7 +15,9 @@ name-rows-requires c κs = search needs
 
 returns : tie.Need-returns
 unfolding zoneRow
-returns c = rw (c .name-rows .ensures, c .before .row .ensures, c .before .before .before .before .pre)
+returns c =
+    let n = c .before .before in
+    rw (c .name-rows .ensures, c .before .row .ensures, n .zone-outside .ensures, n .before .pre)
 
 pub zone-row-spec : {M : Type 1} → statement M
-zone-row-spec = tie.close (tie.spec row-requires name-rows-requires returns)
+zone-row-spec = tie.close (tie.spec zone-outside-requires row-requires name-rows-requires returns)

@@ -13,7 +13,7 @@ use Rattle.records.specs.declared.Unit.{Unit}
 use Rattle.records.specs.declared.Place.the-variants.{Line}
 use Rattle.records.specs.declared.Point.{Point}
 use Rattle.records.specs.declared.Par.{Par}
-use Rattle.records.specs.Table.{headKind, zoneKind, unitKind, pointKind, parKind}
+use Rattle.record_table.specs.Table.{headKind, zoneKind, unitKind, pointKind, parKind}
 use Rattle.records.specs.Content.{Content, noName, head, zone, unit, point, par, factorFor}
 
 pub record HeadFits (h : Head) : Type 0 where

@@ -6,7 +6,7 @@ use mathlib.Core.List.{List}
 use lib.Dec.{ltb}
 use lib.ListN.{length, drop}
 use Rattle.fields.specs.Fields.{byteAt}
-use Rattle.records.specs.Table.{bodyLength, bodyIn}
+use Rattle.record_table.specs.Table.{bodyLength, bodyIn}
 use Rattle.records.specs.Content.{Content, noContent, withRecord}
 use Rattle.record_rows.specs.Rows.{recordRow, lastRow}
 

@@ -1,9 +1,9 @@
 -- `body_length` meets its contract.
 use mathlib.Core.Path.{refl, sym, ap}
-use Rattle.records.specs.Table.{KindRow, noKind, kindRows, total}
-use Rattle.records.proofs.ByKind.{another}
-use Rattle.records.proofs.bodies.body_length.Statement.{statement}
-use Rattle.records.proofs.bodies.body_length.Tie as tie
+use Rattle.record_table.specs.Table.{KindRow, noKind, kindRows, total}
+use Rattle.record_table.proofs.ByKind.{another}
+use Rattle.record_table.proofs.body_length.Statement.{statement}
+use Rattle.record_table.proofs.body_length.Tie as tie
 
 returns : tie.Need-returns
 returns c = rw (c .match .keys1)

@@ -1,7 +1,7 @@
 -- `place_unknown` meets its contract.
 use borrow.Author.Needs.{needs}
-use Rattle.record_rows.proofs.place_unknown.Statement.{statement}
-use Rattle.record_rows.proofs.place_unknown.Tie as tie
+use Rattle.field_rows.proofs.place_unknown.Statement.{statement}
+use Rattle.field_rows.proofs.place_unknown.Tie as tie
 
 enum-told : tie.Need-enum-told
 enum-told c = search needs

@@ -2,9 +2,9 @@
 use mir.Facts.{toZ-ofZ, toZ-pos}
 use mir.Syntax.{w64}
 use borrow.Author.Needs.{needs}
-use Rattle.record_rows.proofs.SignedBounds.{beyond-is, minus-fits}
-use Rattle.record_rows.proofs.beyond.Statement.{statement}
-use Rattle.record_rows.proofs.beyond.Tie as tie
+use Rattle.field_rows.proofs.SignedBounds.{beyond-is, minus-fits}
+use Rattle.field_rows.proofs.beyond.Statement.{statement}
+use Rattle.field_rows.proofs.beyond.Tie as tie
 
 cast-high : tie.Need-cast-high
 cast-high c = search needs

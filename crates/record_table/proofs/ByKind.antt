@@ -9,7 +9,7 @@ use lib.ListN.{length, getD, List·getD-eq-default}
 use borrow.Author.Tests.{leb-true}
 use Rattle.integers.proofs.Cases.{below-or}
 use Rattle.rows.proofs.NotMet.{both}
-use Rattle.records.specs.Table.{byKind, total, bodyLength, KindRow, noKind, kindRows, kindOf, lastKind}
+use Rattle.record_table.specs.Table.{byKind, total, bodyLength, KindRow, noKind, kindRows, kindOf, lastKind}
 
 -- a fact of each kind
 pub kinds : (P : ℕ → Type 0) → P 1 → P 2 → P 3 → P 4 → P 5 → P 6 → (kind : ℕ) → 1 ≤ kind → kind ≤ lastKind → P kind

@@ -2,10 +2,10 @@
 use mathlib.Core.Path.{_≡_, refl, sym, ap}
 use borrow.Author.Needs.{needs}
 use Rattle.integers.proofs.Cases.{equal-or}
-use Rattle.records.specs.Table.{KindRow, noKind, kindRows, kindOf}
-use Rattle.records.proofs.ByKind.{another}
-use Rattle.records.proofs.bodies.most_of.Statement.{statement}
-use Rattle.records.proofs.bodies.most_of.Tie as tie
+use Rattle.record_table.specs.Table.{KindRow, noKind, kindRows, kindOf}
+use Rattle.record_table.proofs.ByKind.{another}
+use Rattle.record_table.proofs.most_of.Statement.{statement}
+use Rattle.record_table.proofs.most_of.Tie as tie
 
 returns : tie.Need-returns
 returns c = search needs
