@@ -25,20 +25,20 @@ fn settle_named() {
 }
 
 fn usage() {
-    files::write_all(STDERR_FILENO, b"usage: settle [SHEET LIST]\n");
-    files::write_all(
+    transfers::write_all(STDERR_FILENO, b"usage: settle [SHEET LIST]\n");
+    transfers::write_all(
         STDERR_FILENO,
         b"Settles an interval sheet against an entitlement list and prints the statement,\n",
     );
-    files::write_all(
+    transfers::write_all(
         STDERR_FILENO,
         b"or 'refused N'. The files are sheet.bin and entitle.bin where none are named. A\n",
     );
-    files::write_all(
+    transfers::write_all(
         STDERR_FILENO,
         b"file that can't be read whole counts as empty. Whatever fails is told on\n",
     );
-    files::write_all(
+    transfers::write_all(
         STDERR_FILENO,
         b"standard error; the exit status is always 0.\n",
     );

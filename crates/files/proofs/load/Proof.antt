@@ -4,9 +4,9 @@ use mathlib.Core.Path.{_≡_, refl, sym, ap, subst}
 use denote.Ref.{now}
 use lib.ListN.{length}
 use Rattle.io.proofs.Counting.{counts}
-use Rattle.files.specs.declared.Outcome.{Outcome}
-use Rattle.files.specs.Transfer.{bytesOf}
-use Rattle.files.proofs.Steps.{unopened}
+use Rattle.transfers.specs.declared.Outcome.{Outcome}
+use Rattle.transfers.specs.Transfer.{bytesOf}
+use Rattle.files.proofs.Unopened.{unopened}
 use borrow.Author.Needs.{needs}
 use Rattle.files.proofs.load.Statement.{statement}
 use Rattle.files.proofs.load.Tie as tie

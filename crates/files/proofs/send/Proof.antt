@@ -1,6 +1,6 @@
 -- `send` meets its contract.
 use mathlib.Core.Path.{sym, ap}
-use Rattle.files.specs.Transfer.{isWhole}
+use Rattle.files.specs.Files.{isWhole}
 use borrow.Author.Needs.{needs}
 use Rattle.files.proofs.send.Statement.{statement}
 use Rattle.files.proofs.send.Tie as tie

@@ -7,9 +7,9 @@ use borrow.Author.Tests.{ltb-true}
 use lib.Dec.{T, eqb}
 use lib.IntN.{ℤ, pos, negsuc, natAbs}
 use lib.Signed.{mag, ltZ, nonNeg}
-use Rattle.files.specs.declared.Answer.{Answer}
-use Rattle.files.specs.declared.Answer.the-variants.{Interrupted, Error}
-use Rattle.files.specs.inner.Steps.{failed}
+use Rattle.transfers.specs.declared.Answer.{Answer}
+use Rattle.transfers.specs.declared.Answer.the-variants.{Interrupted, Error}
+use Rattle.transfers.specs.inner.Steps.{failed}
 
 -- what the test `errno < 0` says
 pub failed-negative : (errno : ℤ) → ltZ errno (pos 0) ≡ true → failed errno ≡ Error 0

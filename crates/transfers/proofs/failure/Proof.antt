@@ -8,9 +8,9 @@ use mathlib.Core.Bool.{true, false}
 use mir.Facts.{toZ-ofZ}
 use mir.Syntax.{w32}
 use mir.Val.{toZ, ofZ}
-use Rattle.files.proofs.Failures.{failed-negative, failed-number, unsigned}
-use Rattle.files.proofs.failure.Statement.{statement}
-use Rattle.files.proofs.failure.Tie as tie
+use Rattle.transfers.proofs.Failures.{failed-negative, failed-number, unsigned}
+use Rattle.transfers.proofs.failure.Statement.{statement}
+use Rattle.transfers.proofs.failure.Tie as tie
 
 returns : tie.Need-returns
 returns c = (sym (failed-negative (c .before .args .errno) (rw (toZ-ofZ (c .before .fits .errno)) at (c .if1 .taken))), λ h. tt)

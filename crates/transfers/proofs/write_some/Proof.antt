@@ -2,8 +2,8 @@
 use borrow.Author.Needs.{needs}
 use denote.Ref.{now}
 use lib.ListN.{length}
-use Rattle.files.proofs.write_some.Statement.{statement}
-use Rattle.files.proofs.write_some.Tie as tie
+use Rattle.transfers.proofs.write_some.Statement.{statement}
+use Rattle.transfers.proofs.write_some.Tie as tie
 
 write-requires : tie.Need-write-requires
 write-requires c κs = search needs

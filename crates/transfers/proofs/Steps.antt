@@ -8,14 +8,14 @@ use native.Mathlib.Omega.{arith}
 use borrow.Author.Tests.{ltb-true}
 use lib.Dec.{eqb, ltb}
 use lib.ListN.{length, take, drop, length-take, length-drop}
-use Rattle.files.specs.declared.Answer.{Answer}
-use Rattle.files.specs.declared.Answer.the-variants.{Moved, Interrupted, Error}
-use Rattle.files.specs.declared.Outcome.{Outcome}
-use Rattle.files.specs.declared.Outcome.the-variants.{Whole, Failed}
-use Rattle.files.specs.declared.Step.{Step}
-use Rattle.files.specs.declared.Step.the-variants.{Onward, Over}
-use Rattle.files.specs.Transfer.{after, next, transfer, bytesOf, Transferred, Loaded}
-use Rattle.files.specs.inner.Steps.{Moves, Answered, Leads}
+use Rattle.transfers.specs.declared.Answer.{Answer}
+use Rattle.transfers.specs.declared.Answer.the-variants.{Moved, Interrupted, Error}
+use Rattle.transfers.specs.declared.Outcome.{Outcome}
+use Rattle.transfers.specs.declared.Outcome.the-variants.{Whole, Failed}
+use Rattle.transfers.specs.declared.Step.{Step}
+use Rattle.transfers.specs.declared.Step.the-variants.{Onward, Over}
+use Rattle.transfers.specs.Transfer.{after, next, transfer, bytesOf, Transferred}
+use Rattle.transfers.specs.inner.Steps.{Moves, Answered, Leads}
 
 moved : (n done room : ℕ) (none : Outcome) (b e : Bool) → ltb n (room - done) ≡ b → bytesOf none ≤ room
     → Leads room (cond b (cond e (Over none) (Onward (done + n))) (Over (Whole room)))
@@ -76,11 +76,6 @@ over {none} {room} l a h e =
 pub given-up : {none : ℕ → Outcome} {room done : ℕ} → Led none room done → Transferred none room (Failed 4)
 unfolding transfer
 given-up l = record { answers = l .answers ++ []; outcome = sym (l .onward []); within = omega arith }
-
--- a file that can't be opened
-pub unopened : (room error : ℕ) → Loaded room 0
-unfolding transfer
-unopened room error = record { outcome = Failed error; received = record { answers = Error error ∷ []; outcome = refl; within = omega arith }; counts = refl }
 
 -- an error at whatever byte: what was moved before does not count
 pub partial-bytes-do-not-count : {none : ℕ → Outcome} {room done : ℕ} (l : Led none room done) (error : ℕ) (later : List Answer)

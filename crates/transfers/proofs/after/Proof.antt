@@ -2,8 +2,8 @@
 use mathlib.Core.Path.{refl}
 use borrow.Author.Tests.{ne-eqb, lt-ltb, le-ltb}
 use borrow.Author.Needs.{needs}
-use Rattle.files.proofs.after.Statement.{statement}
-use Rattle.files.proofs.after.Tie as tie
+use Rattle.transfers.proofs.after.Statement.{statement}
+use Rattle.transfers.proofs.after.Tie as tie
 
 enum-known-answer : tie.Need-enum-known-answer
 enum-known-answer c = search needs

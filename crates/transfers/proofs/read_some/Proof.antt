@@ -2,8 +2,8 @@
 use borrow.Author.Needs.{needs}
 use denote.Ref.{now}
 use lib.ListN.{length}
-use Rattle.files.proofs.read_some.Statement.{statement}
-use Rattle.files.proofs.read_some.Tie as tie
+use Rattle.transfers.proofs.read_some.Statement.{statement}
+use Rattle.transfers.proofs.read_some.Tie as tie
 
 read-requires : tie.Need-read-requires
 read-requires c κs = search needs

@@ -1,11 +1,11 @@
 -- `write_all` meets its contract.
 use Prim.Native.Nat.{ℕ}
 use lib.ListN.{length}
-use Rattle.files.specs.declared.Outcome.the-variants.{Failed}
-use Rattle.files.proofs.Steps.{Led, begun, onward, over, given-up}
+use Rattle.transfers.specs.declared.Outcome.the-variants.{Failed}
+use Rattle.transfers.proofs.Steps.{Led, begun, onward, over, given-up}
 use borrow.Author.Needs.{needs}
-use Rattle.files.proofs.write_all.Statement.{statement}
-use Rattle.files.proofs.write_all.Tie as tie
+use Rattle.transfers.proofs.write_all.Statement.{statement}
+use Rattle.transfers.proofs.write_all.Tie as tie
 
 abbrev Inv-loop : tie.InvT-loop
 Inv-loop fd bytes done₀ calls₀ done calls = Led (λ (n : ℕ). Failed 5) (length bytes) done

@@ -4,12 +4,12 @@ use mathlib.Core.Path.{_≡_}
 use mathlib.Core.Bool.{cond}
 use lib.Dec.{eqb}
 use lib.IntN.{ℤ, pos, negsuc}
-use Rattle.files.specs.declared.Answer.{Answer}
-use Rattle.files.specs.declared.Answer.the-variants.{Moved, Interrupted, Error}
-use Rattle.files.specs.declared.Outcome.{Outcome}
-use Rattle.files.specs.declared.Step.{Step}
-use Rattle.files.specs.declared.Step.the-variants.{Onward, Over}
-use Rattle.files.specs.Transfer.{after, bytesOf}
+use Rattle.transfers.specs.declared.Answer.{Answer}
+use Rattle.transfers.specs.declared.Answer.the-variants.{Moved, Interrupted, Error}
+use Rattle.transfers.specs.declared.Outcome.{Outcome}
+use Rattle.transfers.specs.declared.Step.{Step}
+use Rattle.transfers.specs.declared.Step.the-variants.{Onward, Over}
+use Rattle.transfers.specs.Transfer.{after, bytesOf}
 
 -- a call that failed, by errno: 4 is EINTR, and no error's number is below 1
 abbrev pub failed : ℤ → Answer

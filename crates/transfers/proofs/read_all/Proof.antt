@@ -4,11 +4,11 @@ use native.Mathlib.Omega.{arith}
 use Prim.Native.Nat.{ℕ}
 use mathlib.Core.Path.{_≡_, refl, sym, subst, _∙_}
 use lib.ListN.{length}
-use Rattle.files.specs.declared.Outcome.the-variants.{Whole, Failed}
-use Rattle.files.specs.Transfer.{Received}
-use Rattle.files.proofs.Steps.{Led, begun, onward, over, given-up}
-use Rattle.files.proofs.read_all.Statement.{statement}
-use Rattle.files.proofs.read_all.Tie as tie
+use Rattle.transfers.specs.declared.Outcome.the-variants.{Whole, Failed}
+use Rattle.transfers.specs.Transfer.{Received}
+use Rattle.transfers.proofs.Steps.{Led, begun, onward, over, given-up}
+use Rattle.transfers.proofs.read_all.Statement.{statement}
+use Rattle.transfers.proofs.read_all.Tie as tie
 
 abbrev Inv-loop : tie.InvT-loop
 Inv-loop fd buf₀ done₀ calls₀ buf done calls = Led Whole (length buf) done × (length buf ≡ length buf₀)

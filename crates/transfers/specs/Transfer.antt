@@ -2,15 +2,15 @@
 -- which bytes a call reads or writes, so that the answers are what is known of a call.
 use Prim.Native.Nat.{ℕ, _+_, _-_, _≤_}
 use mathlib.Core.Path.{_≡_}
-use mathlib.Core.Bool.{Bool, true, false, cond}
+use mathlib.Core.Bool.{cond}
 use mathlib.Core.List.{List, [], _∷_}
 use lib.Dec.{eqb, ltb}
-use Rattle.files.specs.declared.Answer.{Answer}
-use Rattle.files.specs.declared.Answer.the-variants.{Moved, Interrupted, Error}
-use Rattle.files.specs.declared.Outcome.{Outcome}
-use Rattle.files.specs.declared.Outcome.the-variants.{Whole, Failed}
-use Rattle.files.specs.declared.Step.{Step}
-use Rattle.files.specs.declared.Step.the-variants.{Onward, Over}
+use Rattle.transfers.specs.declared.Answer.{Answer}
+use Rattle.transfers.specs.declared.Answer.the-variants.{Moved, Interrupted, Error}
+use Rattle.transfers.specs.declared.Outcome.{Outcome}
+use Rattle.transfers.specs.declared.Outcome.the-variants.{Whole, Failed}
+use Rattle.transfers.specs.declared.Step.{Step}
+use Rattle.transfers.specs.declared.Step.the-variants.{Onward, Over}
 
 -- after a call that was handed the bytes behind the first `done` of `room`; one that moves none of them brings the outcome `none`
 abbrev pub after : Answer → ℕ → ℕ → Outcome → Step
@@ -45,19 +45,3 @@ Received room r = Transferred Whole room r
 -- Writing: a call that moves no byte is an error, 5, EIO.
 abbrev pub Delivered : ℕ → Outcome → Type 0
 Delivered room r = Transferred (λ (done : ℕ). Failed 5) room r
-
--- a file, up to the buffer's length: all bytes or none
-pub record Loaded (room n : ℕ) : Type 0 where
-  pub outcome : Outcome
-  pub received : Received room outcome
-  pub counts : n ≡ bytesOf outcome
-
--- whether all bytes were written
-abbrev pub isWhole : Outcome → Bool
-isWhole (Whole n) = true
-isWhole (Failed error) = false
-
-pub record Sent (room : ℕ) (r : Bool) : Type 0 where
-  pub outcome : Outcome
-  pub delivered : Delivered room outcome
-  pub whole : r ≡ isWhole outcome
