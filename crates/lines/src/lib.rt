@@ -5,7 +5,7 @@ use writers::put_name;
 ghost use Prim.Native.Nat.{_+_, _*_, _≤_};
 ghost use lib.ListN.{length};
 ghost use Rattle.writers.specs.inner.Prepended.{Prepended};
-ghost use Rattle.printout.specs.Lines.{figure, line, flowgateLine, gtlLine, flowLines, paymentLines};
+ghost use Rattle.printout.specs.Lines.{figure, line, flowgateLine, gtlLine};
 ghost use Rattle.printout.specs.Listing.{refusalLine};
 ghost use Rattle.lines.specs.inner.Room.{labelRoom, lineRoom};
 
@@ -23,7 +23,7 @@ fn put_figure(label: &[u8], z: i64, out: &mut [u8], at: usize) -> usize
 }
 
 // A label and a number on a line of their own.
-fn put_line(label: &[u8], z: i64, out: &mut [u8], at: usize) -> usize
+pub fn put_line(label: &[u8], z: i64, out: &mut [u8], at: usize) -> usize
     requires { ⌜ (length (now label) ≤ labelRoom) × ((lineRoom ≤ at) × (at ≤ length (now out))) ⌝ }
     ensures { λ r. ⌜ Prepended (line (now (label .entry)) z) (now (out .entry)) at (now (out .exit)) r ⌝ }
     ensures { λ r. ⌜ at ≤ r + lineRoom ⌝ }
@@ -50,46 +50,6 @@ pub fn put_gtl(flow: i64, first: i64, second: i64, out: &mut [u8], at: usize) ->
     let at = put_line(b" ", second, out, at);
     let at = put_figure(b" ", first, out, at);
     put_figure(b"gtl ", flow, out, at)
-}
-
-pub fn put_flows(
-    parallel: i64,
-    shadow: i64,
-    common: i64,
-    noncommon: i64,
-    market: i64,
-    out: &mut [u8],
-    at: usize,
-) -> usize
-    requires { ⌜ (5 * lineRoom ≤ at) × (at ≤ length (now out)) ⌝ }
-    ensures { λ r. ⌜ Prepended (flowLines parallel shadow common noncommon market) (now (out .entry)) at (now (out .exit)) r ⌝ }
-    ensures { λ r. ⌜ at ≤ r + 5 * lineRoom ⌝ }
-{
-    let at = put_line(b"market ", market, out, at);
-    let at = put_line(b"noncommon ", noncommon, out, at);
-    let at = put_line(b"common ", common, out, at);
-    let at = put_line(b"shadow ", shadow, out, at);
-    put_line(b"parallel ", parallel, out, at)
-}
-
-pub fn put_payment(
-    entitlement: i64,
-    price: i64,
-    amount: i64,
-    nyiso: i64,
-    pjm: i64,
-    out: &mut [u8],
-    at: usize,
-) -> usize
-    requires { ⌜ (5 * lineRoom ≤ at) × (at ≤ length (now out)) ⌝ }
-    ensures { λ r. ⌜ Prepended (paymentLines entitlement price amount nyiso pjm) (now (out .entry)) at (now (out .exit)) r ⌝ }
-    ensures { λ r. ⌜ at ≤ r + 5 * lineRoom ⌝ }
-{
-    let at = put_line(b"PJM ", pjm, out, at);
-    let at = put_line(b"NYISO ", nyiso, out, at);
-    let at = put_line(b"amount ", amount, out, at);
-    let at = put_line(b"price ", price, out, at);
-    put_line(b"entitlement ", entitlement, out, at)
 }
 
 pub fn put_refusal(n: u8, out: &mut [u8], at: usize) -> usize

@@ -1,8 +1,8 @@
 // The printed statement (document 01, 'The printed statement').
+use line_groups::put_flows;
+use line_groups::put_payment;
 use lines::put_flowgate;
-use lines::put_flows;
 use lines::put_gtl;
-use lines::put_payment;
 use lines::put_refusal;
 use statement::Statement;
 use statement::refused;

@@ -6,7 +6,7 @@ use Rattle.statement.specs.declared.Statement.{Statement}
 use Rattle.statement.specs.Statement.{refusedAs}
 use Rattle.writers.specs.Text.{ascii, digits, decimal, unfilled, hexadecimal}
 use Rattle.writers.proofs.Decimal.{natural-computed}
-use Rattle.printout.specs.Lines.{joined, figure, line, flowgateLine, gtlLine, flowLines, paymentLines}
+use Rattle.printout.specs.Lines.{joined, figure, line, flowgateLine, gtlLine, flowLines, amountLines, paymentLines}
 use Rattle.printout.specs.Listing.{listing, refusalLine, shown}
 
 unfoldable pub statementS : Statement
@@ -42,7 +42,7 @@ pub listing-S : listing statementS ≡
     ++ ascii "amount 1328125\n"
     ++ ascii "NYISO -1328125\n"
     ++ ascii "PJM 1328125\n"
-unfolding ascii digits decimal unfilled hexadecimal joined figure line flowgateLine gtlLine flowLines paymentLines listing statementS
+unfolding ascii digits decimal unfilled hexadecimal joined figure line flowgateLine gtlLine flowLines amountLines paymentLines listing statementS
 listing-S =
     simp (
       natural-computed 12600000 tt,

@@ -10,7 +10,7 @@ use Rattle.statement.specs.declared.Statement.{Statement}
 use Rattle.writers.specs.Text.{ascii, decimal, unfilled, hexadecimal}
 use Rattle.writers.proofs.Decimal.{natural-length}
 use Rattle.writers.proofs.Names.{hexadecimal-length, unfilled-length}
-use Rattle.printout.specs.Lines.{joined, figure, line, flowgateLine, gtlLine, flowLines, paymentLines}
+use Rattle.printout.specs.Lines.{joined, figure, line, flowgateLine, gtlLine, flowLines, amountLines, paymentLines}
 use Rattle.printout.specs.Listing.{listing}
 
 -- k + 1 digits and a minus
@@ -60,7 +60,7 @@ module _ (a b c d e : ℤ) where
   flows-length = simp (length-append, line-length) (omega arith)
 
   pub payment-length : length (paymentLines a b c d e) ≡ 40 + five
-  unfolding paymentLines joined ascii
+  unfolding paymentLines amountLines joined ascii
   payment-length = simp (length-append, line-length) (omega arith)
 
 module _ (s : Statement) where

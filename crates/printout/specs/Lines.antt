@@ -37,13 +37,10 @@ flowLines parallel shadow common noncommon market =
     ∷ []
     )
 
+-- the amount and the payments, NYISO's always first
+unfoldable pub amountLines : ℤ → ℤ → ℤ → List ℕ
+amountLines amount nyiso pjm = joined (line (ascii "amount ") amount ∷ line (ascii "NYISO ") nyiso ∷ line (ascii "PJM ") pjm ∷ [])
+
 unfoldable pub paymentLines : ℤ → ℤ → ℤ → ℤ → ℤ → List ℕ
 paymentLines entitlement price amount nyiso pjm =
-    joined (
-    line (ascii "entitlement ") entitlement
-    ∷ line (ascii "price ") price
-    ∷ line (ascii "amount ") amount
-    ∷ line (ascii "NYISO ") nyiso
-    ∷ line (ascii "PJM ") pjm
-    ∷ []
-    )
+    joined (line (ascii "entitlement ") entitlement ∷ line (ascii "price ") price ∷ amountLines amount nyiso pjm ∷ [])

@@ -23,8 +23,9 @@ use Rattle.figures.proofs.Ranges.{parallel-within, shadow-within}
 use Rattle.figures.proofs.Bounds.{first-remainder-small, generation-to-load-small, second-remainder-small, redirect-small, non-common-redirect-small}
 use Rattle.figures.proofs.Payments.{price-within, price-least, flow-within, in-watts-within, amount-within, payments-opposite, payment-within}
 use Rattle.statement.specs.declared.Statement.{Statement}
-use Rattle.settlement.specs.Settled.{figuresAt, flowgate, settled}
-use Rattle.settlement.proofs.Promised.{holds-valid, NoRowMet, no-row-met}
+use Rattle.settlement.specs.declared.Interval.{Interval}
+use Rattle.settlement.specs.Settled.{inputs, figuresAt, intervalAt, flowgate, settled}
+use Rattle.settlement.proofs.Promised.{holds-valid, NoRowMet, no-row-met, statement-is}
 
 -- a price is not negative, and PJM's payment is the negative of NYISO's
 pub record Bounded (s : Statement) : Type 0 where
@@ -81,10 +82,11 @@ figures-bounded c e v b f h n =
     }
 
 pub bounded : (sheet list : List ℕ) → settled sheet list .refusal ≡ 0 → Bounded (settled sheet list)
+unfolding settled
 bounded sheet list z =
-    let n = no-row-met sheet list z in
+    let n = no-row-met (inputs sheet list) z in
     let c = n .0 in
     let e = n .1 in
     let m = n .2 in
-    rw (m .figures)
+    rw (statement-is m)
     (figures-bounded c e (holds-valid sheet c (m .read)) (m .balanced) (m .inside) (value-within list (flowgate c) e (m .entitled)) (found-sized list (flowgate c) e (m .entitled)))

@@ -27,8 +27,8 @@ use Rattle.figures.specs.Payment.{amount, payment}
 use Rattle.figures.proofs.Payments.{payments-opposite}
 use Rattle.accuracy.proofs.Accuracy.{accurate}
 use Rattle.statement.specs.declared.Statement.{Statement}
-use Rattle.statement.specs.Statement.{refusedAs}
-use Rattle.settlement.specs.Settled.{figuresAt, unlessMet, afterBalance, afterList, byList, flowgate, afterSheet, bySheet, settled}
+use Rattle.settlement.specs.declared.Interval.{Interval}
+use Rattle.settlement.specs.Settled.{Inputs, inputs, figuresAt, intervalAt, refusedBy, unlessMet, afterBalance, afterList, byList, flowgate, afterSheet, bySheet, interval, settled}
 use Rattle.settlement.specs.Promise.{Accepted, Promise}
 
 -- the list's refusals have numbers
@@ -50,10 +50,10 @@ list-some s name row e z = go (row14 s) e
     go false e = look-up-some (entriesOf s) name row e z
 
 -- where a stage's answer bears the number 0, it met no row
-passed : (row : ℕ) (behind : Statement) → unlessMet row behind .refusal ≡ 0 → (row ≡ 0) × (unlessMet row behind ≡ behind)
+passed : (row : ℕ) (behind : Interval) → unlessMet row behind .statement .refusal ≡ 0 → (row ≡ 0) × (unlessMet row behind ≡ behind)
 passed row behind e = go (eqb row 0) refl e
   where
-    go : (b : Bool) → eqb row 0 ≡ b → cond b behind (refusedAs row) .refusal ≡ 0 → (row ≡ 0) × (cond b behind (refusedAs row) ≡ behind)
+    go : (b : Bool) → eqb row 0 ≡ b → cond b behind (refusedBy row) .statement .refusal ≡ 0 → (row ≡ 0) × (cond b behind (refusedBy row) ≡ behind)
     go true p e = (eqb-true _ _ p, refl)
     go false p e = absurd (eqb-false _ _ p e)
 
@@ -63,10 +63,14 @@ opposites x = simp zi (simp zo (omega zarith))
 payments-add : {h : Head} → HeadFits h → (a : ℤ) → payment h a nyiso +ℤ payment h a pjm ≡ pos 0
 payments-add {h} f a = rw (payments-opposite f a) (opposites (payment h a nyiso))
 
-unless-adds : (row : ℕ) (behind : Statement) → behind .nyiso +ℤ behind .pjm ≡ pos 0 → unlessMet row behind .nyiso +ℤ unlessMet row behind .pjm ≡ pos 0
+-- the two payments of a statement add to zero
+abbrev Adds : Statement → Type 0
+Adds s = s .nyiso +ℤ s .pjm ≡ pos 0
+
+unless-adds : (row : ℕ) (behind : Interval) → Adds (behind .statement) → Adds (unlessMet row behind .statement)
 unless-adds row behind h = go (eqb row 0)
   where
-    go : (b : Bool) → cond b behind (refusedAs row) .nyiso +ℤ cond b behind (refusedAs row) .pjm ≡ pos 0
+    go : (b : Bool) → Adds (cond b behind (refusedBy row) .statement)
     go true = h
     go false = refl
 
@@ -79,54 +83,61 @@ fails-some : (sheet : List ℕ) (number at : ℕ) → reading sheet ≡ fails nu
 unfolding readSheet
 fails-some sheet number at p = refused-some sheet number at (rw p)
 
--- a statement that no row refuses
-pub record NoRowMet (sheet list : List ℕ) (s : Statement) (c : Content) (e : ℤ) : Type 0 where
-  pub read : reading sheet ≡ holds c
-  pub entitled : entitlement list (flowgate c) ≡ found.Found e
+-- an interval that no row refuses
+pub record NoRowMet (x : Inputs) (i : Interval) (c : Content) (e : ℤ) : Type 0 where
+  pub read : reading (x .sheet) ≡ holds c
+  pub entitled : entitlement (x .list) (flowgate c) ≡ found.Found e
   pub balanced : balanceRow c ≡ 0
   pub inside : flowRow (marketFlow c) ≡ 0
-  pub figures : s ≡ figuresAt c e
+  pub is : i ≡ intervalAt c e
 
-module _ (sheet list : List ℕ) where
-  pub adds : settled sheet list .nyiso +ℤ settled sheet list .pjm ≡ pos 0
-  unfolding settled bySheet afterSheet byList afterList afterBalance figuresAt
-  adds = by-sheet (reading sheet) refl
+pub statement-is : {x : Inputs} {i : Interval} {c : Content} {e : ℤ} → NoRowMet x i c e → i .statement ≡ figuresAt c e
+unfolding intervalAt
+statement-is m = ap (λ (i : Interval). i .statement) (m .is)
+
+module _ (x : Inputs) where
+  pub adds : Adds (interval x .statement)
+  unfolding interval bySheet afterSheet byList afterList afterBalance intervalAt figuresAt
+  adds = by-sheet (reading (x .sheet)) refl
     where
-      by-list : (c : Content) → Valid c → (f : Entitlement) → byList c f .nyiso +ℤ byList c f .pjm ≡ pos 0
+      by-list : (c : Content) → Valid c → (f : Entitlement) → Adds (byList c f .statement)
       by-list c v (found.Found e) =
-          unless-adds (balanceRow c) (afterBalance c e) (unless-adds (flowRow (marketFlow c)) (figuresAt c e) (payments-add (v .head-fits) (amount c e)))
+          unless-adds (balanceRow c) (afterBalance c e) (unless-adds (flowRow (marketFlow c)) (intervalAt c e) (payments-add (v .head-fits) (amount c e)))
       by-list c v (found.Refused row) = refl
 
-      by-sheet : (r : Reading) → reading sheet ≡ r → bySheet list r .nyiso +ℤ bySheet list r .pjm ≡ pos 0
-      by-sheet (holds c) p = by-list c (holds-valid sheet c p) (entitlement list (flowgate c))
+      by-sheet : (r : Reading) → reading (x .sheet) ≡ r → Adds (bySheet x r .statement)
+      by-sheet (holds c) p = by-list c (holds-valid (x .sheet) c p) (entitlement (x .list) (flowgate c))
       by-sheet (fails number at) p = refl
 
-  module _ (c : Content) (p : reading sheet ≡ holds c) where
-    by-balance : (e : ℤ) → entitlement list (flowgate c) ≡ found.Found e → afterList c e .refusal ≡ 0 → NoRowMet sheet list (afterList c e) c e
+  module _ (c : Content) (p : reading (x .sheet) ≡ holds c) where
+    by-balance : (e : ℤ) → entitlement (x .list) (flowgate c) ≡ found.Found e → afterList c e .statement .refusal ≡ 0 → NoRowMet x (afterList c e) c e
     unfolding afterList afterBalance
     by-balance e q z =
         let b = passed (balanceRow c) (afterBalance c e) z in
-        let f = passed (flowRow (marketFlow c)) (figuresAt c e) (ap (λ (s : Statement). s .refusal) (sym (b .1)) ∙ z) in
-        record { read = p; entitled = q; balanced = b .0; inside = f .0; figures = b .1 ∙ f .1 }
+        let f = passed (flowRow (marketFlow c)) (intervalAt c e) (ap (λ (i : Interval). i .statement .refusal) (sym (b .1)) ∙ z) in
+        record { read = p; entitled = q; balanced = b .0; inside = f .0; is = b .1 ∙ f .1 }
 
-    by-list : (f : Entitlement) → entitlement list (flowgate c) ≡ f → byList c f .refusal ≡ 0 → (e : ℤ) × NoRowMet sheet list (byList c f) c e
+    by-list : (f : Entitlement) → entitlement (x .list) (flowgate c) ≡ f → byList c f .statement .refusal ≡ 0 → (e : ℤ) × NoRowMet x (byList c f) c e
     unfolding byList
     by-list (found.Found e) q z = (e, by-balance e q z)
-    by-list (found.Refused row) q z = absurd (list-some list (flowgate c) row q z)
+    by-list (found.Refused row) q z = absurd (list-some (x .list) (flowgate c) row q z)
 
-  pub no-row-met : settled sheet list .refusal ≡ 0 → (c : Content) × (e : ℤ) × NoRowMet sheet list (settled sheet list) c e
-  unfolding settled bySheet afterSheet
-  no-row-met = by-sheet (reading sheet) refl
+  pub no-row-met : interval x .statement .refusal ≡ 0 → (c : Content) × (e : ℤ) × NoRowMet x (interval x) c e
+  unfolding interval bySheet afterSheet
+  no-row-met = by-sheet (reading (x .sheet)) refl
     where
-      by-sheet : (r : Reading) → reading sheet ≡ r → bySheet list r .refusal ≡ 0 → (c : Content) × (e : ℤ) × NoRowMet sheet list (bySheet list r) c e
-      by-sheet (holds c) p z = let n = by-list c p (entitlement list (flowgate c)) refl z in (c, n .0, n .1)
-      by-sheet (fails number at) p z = absurd (fails-some sheet number at p z)
+      by-sheet : (r : Reading) → reading (x .sheet) ≡ r → bySheet x r .statement .refusal ≡ 0 → (c : Content) × (e : ℤ) × NoRowMet x (bySheet x r) c e
+      by-sheet (holds c) p z = let n = by-list c p (entitlement (x .list) (flowgate c)) refl z in (c, n .0, n .1)
+      by-sheet (fails number at) p z = absurd (fails-some (x .sheet) number at p z)
 
-  pub accepted-of : settled sheet list .refusal ≡ 0 → (c : Content) × (e : ℤ) × Accepted sheet list (settled sheet list) c e
+  pub accepted-of : interval x .statement .refusal ≡ 0 → (c : Content) × (e : ℤ) × Accepted (x .sheet) (x .list) (interval x .statement) c e
   accepted-of z =
       let n = no-row-met z in
       let m = n .2 in
-      (n .0, n .1, record { read = m .read; entitled = m .entitled; figures = m .figures; accurate = accurate (n .0) (holds-valid sheet (n .0) (m .read)) (m .balanced) (n .1) })
+      let c = n .0 in
+      let e = n .1 in
+      (c, e, record { read = m .read; entitled = m .entitled; figures = statement-is m; accurate = accurate c (holds-valid (x .sheet) c (m .read)) (m .balanced) e })
 
-  pub promised : (s : Statement) → s ≡ settled sheet list → Promise sheet list s
-  promised s e = rw e (record { settles = refl; add-to-zero = adds; accepted = accepted-of })
+pub promised : (sheet list : List ℕ) (s : Statement) → s ≡ settled sheet list → Promise sheet list s
+unfolding settled
+promised sheet list s p = rw p (record { settles = refl; add-to-zero = adds (inputs sheet list); accepted = accepted-of (inputs sheet list) })

@@ -1,23 +1,20 @@
--- The statement by the reader's answer: what the definition says of the reading, it says of the outcome and the content too.
-use Prim.Native.Nat.{ℕ}
+-- The interval by the reader's answer: what the definition says of the reading, it says of the outcome and the content too.
 use mathlib.Core.Path.{_≡_, refl}
-use mathlib.Core.List.{List}
 use Rattle.records.specs.Content.{Content}
 use Rattle.sheet.specs.declared.Outcome.{Outcome}
 use Rattle.sheet.specs.declared.Outcome.the-variants.{Accepted, Refused}
 use Rattle.sheet.specs.Sheet.{Reading, holds, fails, reading, outcome, readSheet, contentIn, contentOf}
-use Rattle.statement.specs.declared.Statement.{Statement}
-use Rattle.statement.specs.Statement.{refusedAs}
-use Rattle.settlement.specs.Settled.{afterSheet, bySheet, settled}
+use Rattle.settlement.specs.declared.Interval.{Interval}
+use Rattle.settlement.specs.Settled.{Inputs, refusedBy, afterSheet, bySheet, interval}
 
-abbrev pub byOutcome : Content → List ℕ → Outcome → Statement
-byOutcome c list (Accepted l) = afterSheet c list
-byOutcome c list (Refused number at) = refusedAs number
+abbrev pub byOutcome : Content → Inputs → Outcome → Interval
+byOutcome c x (Accepted l) = afterSheet c x
+byOutcome c x (Refused number at) = refusedBy number
 
-pub settled-is : (sheet list : List ℕ) → settled sheet list ≡ byOutcome (contentOf sheet) list (readSheet sheet)
-unfolding settled bySheet readSheet contentOf
-settled-is sheet list = go (reading sheet)
+pub interval-is : (x : Inputs) → interval x ≡ byOutcome (contentOf (x .sheet)) x (readSheet (x .sheet))
+unfolding interval bySheet readSheet contentOf
+interval-is x = go (reading (x .sheet))
   where
-    go : (r : Reading) → bySheet list r ≡ byOutcome (contentIn r) list (outcome r)
+    go : (r : Reading) → bySheet x r ≡ byOutcome (contentIn r) x (outcome r)
     go (holds c) = refl
     go (fails number at) = refl

@@ -11,27 +11,26 @@ use Rattle.figures.specs.Payment.{difference, amount}
 use Rattle.figures.proofs.Payments.{flow-within}
 use Rattle.flow.specs.inner.Flow.{flowOf}
 use Rattle.payment.specs.inner.Payment.{paymentOf, Payable}
-use Rattle.statement.specs.Statement.{refusedAs}
-use Rattle.settlement.specs.Settled.{figuresAt, afterBalance, afterList}
-use Rattle.settlement.specs.inner.Parts.{statementOf}
+use Rattle.settlement.specs.Settled.{figuresAt, intervalAt, refusedBy, afterBalance, afterList}
+use Rattle.settlement.specs.inner.Parts.{intervalOf}
 
 module _ (c : Content) (e : ℤ) where
-  pub flow-refused : (flowRow (marketFlow c) ≡ 0 → ⊥) → afterBalance c e ≡ refusedAs (flowRow (marketFlow c))
+  pub flow-refused : (flowRow (marketFlow c) ≡ 0 → ⊥) → afterBalance c e ≡ refusedBy (flowRow (marketFlow c))
   unfolding afterBalance
   flow-refused n = rw (ne-eqb _ _ n)
 
-  pub flow-passed : flowRow (marketFlow c) ≡ 0 → afterBalance c e ≡ figuresAt c e
+  pub flow-passed : flowRow (marketFlow c) ≡ 0 → afterBalance c e ≡ intervalAt c e
   unfolding afterBalance
   flow-passed z = rw (eq-eqb _ _ z)
 
-  pub figures-are : statementOf (head c) (flowOf c) (paymentOf (head c) (marketFlow c) e) ≡ figuresAt c e
-  unfolding figuresAt amount difference paymentOf
+  pub figures-are : intervalOf (head c) (flowOf c) (paymentOf (head c) (marketFlow c) e) ≡ intervalAt c e
+  unfolding intervalAt figuresAt amount difference paymentOf
   figures-are = refl
 
   pub payable : Valid c → flowRow (marketFlow c) ≡ 0 → natAbs e ≤ 100000 → Payable (head c) (marketFlow c) e
   payable v z b = record { head-fits = v .head-fits; flow-most = flow-within (marketFlow c) z; entitlement-most = b }
 
-  pub balance-refused : (balanceRow c ≡ 0 → ⊥) → afterList c e ≡ refusedAs (balanceRow c)
+  pub balance-refused : (balanceRow c ≡ 0 → ⊥) → afterList c e ≡ refusedBy (balanceRow c)
   unfolding afterList
   balance-refused n = rw (ne-eqb _ _ n)
 

@@ -1,4 +1,4 @@
--- The statement of a sheet and an entitlement list: refusals 1 to 22 in the table's order, stage by stage, else every figure.
+-- What settling an interval answers: refusals 1 to 22 in the table's order, stage by stage, else every figure.
 use Prim.Native.Nat.{ℕ}
 use mathlib.Core.Bool.{cond}
 use mathlib.Core.List.{List}
@@ -15,6 +15,15 @@ use Rattle.figures.specs.Flow.{generationToLoad, firstRemainder, secondRemainde
 use Rattle.figures.specs.Payment.{inWatts, difference, price, amount, payment}
 use Rattle.statement.specs.declared.Statement.{Statement}
 use Rattle.statement.specs.Statement.{refusedAs}
+use Rattle.settlement.specs.declared.Interval.{Interval}
+
+-- what an interval is settled from
+pub record Inputs : Type 0 where
+  pub sheet : List ℕ
+  pub list : List ℕ
+
+abbrev pub inputs : List ℕ → List ℕ → Inputs
+inputs sheet list = record { sheet = sheet; list = list }
 
 -- the figures of the flowgate, target 0, at an entitlement in tenths of a MW
 unfoldable pub figuresAt : Content → ℤ → Statement
@@ -36,34 +45,46 @@ figuresAt c e = record {
   pjm = payment (head c) (amount c e) pjm;
 }
 
+-- the statement with the sheet's seconds and Monitoring RTO, which an hour keeps (02, request 1)
+unfoldable pub intervalAt : Content → ℤ → Interval
+intervalAt c e = record { statement = figuresAt c e; seconds = head c .seconds; «monitoring_rto» = head c .«monitoring_rto» }
+
+-- a refused interval has zeros everywhere else
+abbrev pub refusedBy : ℕ → Interval
+refusedBy row = record { statement = refusedAs row; seconds = 0; «monitoring_rto» = 0 }
+
 -- a stage answers the row that it met, or 0 and then what comes behind it
-abbrev pub unlessMet : ℕ → Statement → Statement
-unlessMet row behind = cond (eqb row 0) behind (refusedAs row)
+abbrev pub unlessMet : ℕ → Interval → Interval
+unlessMet row behind = cond (eqb row 0) behind (refusedBy row)
 
 -- the flow: row 22
-unfoldable pub afterBalance : Content → ℤ → Statement
-afterBalance c e = unlessMet (flowRow (marketFlow c)) (figuresAt c e)
+unfoldable pub afterBalance : Content → ℤ → Interval
+afterBalance c e = unlessMet (flowRow (marketFlow c)) (intervalAt c e)
 
 -- the balance: rows 16 to 21
-unfoldable pub afterList : Content → ℤ → Statement
+unfoldable pub afterList : Content → ℤ → Interval
 afterList c e = unlessMet (balanceRow c) (afterBalance c e)
 
 -- the entitlement list: rows 14 and 15
-unfoldable pub byList : Content → Entitlement → Statement
+unfoldable pub byList : Content → Entitlement → Interval
 byList c (found.Found e) = afterList c e
-byList c (found.Refused row) = refusedAs row
+byList c (found.Refused row) = refusedBy row
 
 -- the flowgate's name in the sheet's head
 abbrev pub flowgate : Content → List ℕ
 flowgate c = head c .name
 
-unfoldable pub afterSheet : Content → List ℕ → Statement
-afterSheet c list = byList c (entitlement list (flowgate c))
+unfoldable pub afterSheet : Content → Inputs → Interval
+afterSheet c x = byList c (entitlement (x .list) (flowgate c))
 
 -- the sheet: rows 1 to 13
-unfoldable pub bySheet : List ℕ → Reading → Statement
-bySheet list (holds c) = afterSheet c list
-bySheet list (fails number at) = refusedAs number
+unfoldable pub bySheet : Inputs → Reading → Interval
+bySheet x (holds c) = afterSheet c x
+bySheet x (fails number at) = refusedBy number
 
+unfoldable pub interval : Inputs → Interval
+interval x = bySheet x (reading (x .sheet))
+
+-- the statement of a sheet and an entitlement list
 unfoldable pub settled : List ℕ → List ℕ → Statement
-settled sheet list = bySheet list (reading sheet)
+settled sheet list = interval (inputs sheet list) .statement

@@ -1,4 +1,4 @@
-// The settlement of one interval: from a sheet and an entitlement list to its statement, refusals 1 to 22.
+// The settlement of one interval, from a sheet and an entitlement list: refusals 1 to 22.
 ghost use mathlib.Core.Path.{_≡_};
 ghost use Prim.Native.Nat.{_≤_};
 ghost use lib.IntN.{natAbs};
@@ -6,17 +6,35 @@ ghost use Rattle.records.specs.Content.{head};
 ghost use Rattle.sheet.specs.declared.Outcome.the-variants.{Accepted};
 ghost use Rattle.sheet.specs.Sheet.{readSheet, contentOf};
 ghost use Rattle.flow.specs.inner.Flow.{Ready};
-ghost use Rattle.settlement.specs.Settled.{afterBalance, afterList, afterSheet};
-ghost use Rattle.settlement.specs.inner.Parts.{statementOf};
+ghost use Rattle.settlement.specs.Settled.{inputs, refusedBy, afterBalance, afterList, afterSheet, interval};
+ghost use Rattle.settlement.specs.inner.Parts.{intervalOf};
 ghost use Rattle.settlement.specs.Promise.{Promise};
 use records::Head;
 use statement::Statement;
 
-fn statement_of(h: Head, f: flow::Flow, p: payment::Payment) -> Statement
-    ensures { λ r. ⌜ r ≡ statementOf h f p ⌝ }
+// What settling an interval answers: the statement with the sheet's seconds and Monitoring RTO.
+pub struct Interval {
+    pub statement: Statement,
+    pub seconds: u16,
+    pub monitoring_rto: u8,
+}
+
+// A refused interval: the number, and zeros everywhere else.
+fn refused(row: u8) -> Interval
+    ensures { λ r. ⌜ r ≡ refusedBy row ⌝ }
+{
+    Interval {
+        statement: statement::refused(row),
+        seconds: 0,
+        monitoring_rto: 0,
+    }
+}
+
+fn interval_of(h: Head, f: flow::Flow, p: payment::Payment) -> Interval
+    ensures { λ r. ⌜ r ≡ intervalOf h f p ⌝ }
 {
     let name = h.name;
-    Statement {
+    let statement = Statement {
         refusal: 0,
         name,
         gtl: f.gtl,
@@ -32,6 +50,11 @@ fn statement_of(h: Head, f: flow::Flow, p: payment::Payment) -> Statement
         amount: p.amount,
         nyiso: p.nyiso,
         pjm: p.pjm,
+    };
+    Interval {
+        statement,
+        seconds: h.seconds,
+        monitoring_rto: h.monitoring_rto,
     }
 }
 
@@ -43,21 +66,21 @@ fn settle_flow<'a>(
     plus: &'a [u64; 33],
     minus: &'a [u64; 33],
     e: i64,
-) -> Statement
+) -> Interval
     requires { ⌜ Ready (now s) l b (now plus) (now minus) × (natAbs e ≤ 100000) ⌝ }
     ensures { λ r. ⌜ r ≡ afterBalance (contentOf (now (s .entry))) e ⌝ }
 {
     let f = flow::flow_of(s, l, b, plus, minus);
     if f.row != 0 {
-        return statement::refused(f.row);
+        return refused(f.row);
     }
     let h = sheet_records::head_at(s, l);
     let p = payment::pay(h, f.market, e);
-    statement_of(h, f, p)
+    interval_of(h, f, p)
 }
 
 // The balance, then the flow.
-fn settle_balance(s: &[u8], l: layout::Layout, e: i64) -> Statement
+fn settle_balance(s: &[u8], l: layout::Layout, e: i64) -> Interval
     requires { ⌜ (readSheet (now s) ≡ Accepted l) × (natAbs e ≤ 100000) ⌝ }
     ensures { λ r. ⌜ r ≡ afterList (contentOf (now (s .entry))) e ⌝ }
 {
@@ -65,21 +88,32 @@ fn settle_balance(s: &[u8], l: layout::Layout, e: i64) -> Statement
     let imports = balance::by_zone(s, l, balance::Ledger::Imports, l.points);
     let b = balance::balance_of(s, l, &loads, &imports);
     if b.row != 0 {
-        return statement::refused(b.row);
+        return refused(b.row);
     }
     settle_flow(s, l, b, &loads, &imports, e)
 }
 
 // The entitlement list, then the balance.
-fn settle_sheet(s: &[u8], l: layout::Layout, list: &[u8]) -> Statement
-    requires { ⌜ readSheet (now s) ≡ Accepted l ⌝ }
-    ensures { λ r. ⌜ r ≡ afterSheet (contentOf (now (s .entry))) (now (list .entry)) ⌝ }
+fn settle_sheet(sheet: &[u8], l: layout::Layout, list: &[u8]) -> Interval
+    requires { ⌜ readSheet (now sheet) ≡ Accepted l ⌝ }
+    ensures { λ r. ⌜ r ≡ afterSheet (contentOf (now (sheet .entry))) (inputs (now (sheet .entry)) (now (list .entry))) ⌝ }
 {
-    let h = sheet_records::head_at(s, l);
+    let h = sheet_records::head_at(sheet, l);
     let name = h.name;
     match entitlements::find(list, &name) {
-        entitlements::Entitlement::Refused(row) => statement::refused(row),
-        entitlements::Entitlement::Found(e) => settle_balance(s, l, e),
+        entitlements::Entitlement::Refused(row) => refused(row),
+        entitlements::Entitlement::Found(e) => settle_balance(sheet, l, e),
+    }
+}
+
+// The interval of any two byte strings: all inputs of a settlement come here.
+pub fn settle_interval(sheet: &[u8], list: &[u8]) -> Interval
+    ensures { λ r. ⌜ r ≡ interval (inputs (now (sheet .entry)) (now (list .entry))) ⌝ }
+    ensures { λ r. ⌜ Promise (now (sheet .entry)) (now (list .entry)) (r .statement) ⌝ }
+{
+    match sheet::read(sheet) {
+        sheet::Outcome::Refused(row, _) => refused(row),
+        sheet::Outcome::Accepted(l) => settle_sheet(sheet, l, list),
     }
 }
 
@@ -87,8 +121,5 @@ fn settle_sheet(s: &[u8], l: layout::Layout, list: &[u8]) -> Statement
 pub fn settle(sheet: &[u8], list: &[u8]) -> Statement
     ensures { λ r. ⌜ Promise (now (sheet .entry)) (now (list .entry)) r ⌝ }
 {
-    match sheet::read(sheet) {
-        sheet::Outcome::Refused(row, _) => statement::refused(row),
-        sheet::Outcome::Accepted(l) => settle_sheet(sheet, l, list),
-    }
+    settle_interval(sheet, list).statement
 }

@@ -1,6 +1,6 @@
 -- `put_flows_of` hands the statement's figures on.
 use native.Mathlib.Omega.{arith}
-use Rattle.lines.proofs.Numbers.{flows-as-is}
+use Rattle.line_groups.proofs.Numbers.{flows-as-is}
 use borrow.Author.Needs.{needs}
 use Rattle.listing.proofs.put_flows_of.Statement.{statement}
 use Rattle.listing.proofs.put_flows_of.Tie as tie

@@ -1,6 +1,6 @@
 -- `put_payment_of` hands the statement's figures on.
 use native.Mathlib.Omega.{arith}
-use Rattle.lines.proofs.Numbers.{payment-as-is}
+use Rattle.line_groups.proofs.Numbers.{payment-as-is}
 use borrow.Author.Needs.{needs}
 use Rattle.listing.proofs.put_payment_of.Statement.{statement}
 use Rattle.listing.proofs.put_payment_of.Tie as tie

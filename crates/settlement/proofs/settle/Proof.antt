@@ -1,46 +1,13 @@
--- `settle` meets its contract, at every two byte strings.
-use mathlib.Core.Path.{_≡_, refl, sym, ap, _∙_}
-use denote.Ref.{now}
+-- `settle` hands out the interval's statement.
 use borrow.Author.Needs.{needs}
-use Rattle.sheet.specs.Sheet.{readSheet, contentOf}
-use Rattle.settlement.proofs.Read.{byOutcome, settled-is}
-use Rattle.settlement.proofs.Promised.{promised}
 use Rattle.settlement.proofs.settle.Statement.{statement}
 use Rattle.settlement.proofs.settle.Tie as tie
 
-read-requires : tie.Need-read-requires
-read-requires c κs = search needs
-
-enum-known-row : tie.Need-enum-known-row
-enum-known-row c = search needs
-
-refused-requires : tie.Need-refused-requires
-refused-requires c κs = search needs
-
-enum-known-l : tie.Need-enum-known-l
-enum-known-l c = search needs
-
-settle-sheet-requires : tie.Need-settle-sheet-requires
-settle-sheet-requires c κs = sym (c .before .before .before .read .ensures) ∙ c .before .l .given .1
+settle-interval-requires : tie.Need-settle-interval-requires
+settle-interval-requires c κs = search needs
 
 returns : tie.Need-returns
-returns c =
-    let r = c .before .before in
-    promised _ _ _ (c .refused .ensures ∙ sym (settled-is _ _ ∙ ap (byOutcome _ _) (sym (r .before .before .read .ensures) ∙ r .row .given .1)))
-
-returns-2 : tie.Need-returns-2
-returns-2 c =
-    let l = c .before .before in
-    promised _ _ _ (c .settle-sheet .ensures ∙ sym (settled-is _ _ ∙ ap (byOutcome _ _) (sym (l .before .before .read .ensures) ∙ l .l .given .1)))
+returns c = c .before .settle-interval .ensures .1
 
 pub settle-spec : {M : Type 1} → statement M
-settle-spec =
-    tie.close
-    (tie.spec
-    read-requires
-    enum-known-row
-    refused-requires
-    enum-known-l
-    settle-sheet-requires
-    returns
-    returns-2)
+settle-spec = tie.close (tie.spec settle-interval-requires returns)

@@ -47,8 +47,8 @@ pay-requires c κs =
     rw (toZ-ofZ (market-fits f), toZ-ofZ (s .fits .e), f .flow-of .ensures, h .head-at .ensures)
     (payable _ _ (valid _ _ (s .pre .0 .given .accepted)) (passed q) (s .pre .1))
 
-statement-of-requires : tie.Need-statement-of-requires
-statement-of-requires c κs = search needs
+interval-of-requires : tie.Need-interval-of-requires
+interval-of-requires c κs = search needs
 
 returns-2 : tie.Need-returns-2
 returns-2 c =
@@ -57,7 +57,7 @@ returns-2 c =
     let q = h .before in
     let f = q .before .before in
     let s = f .before .before in
-    c .statement-of .ensures
+    c .interval-of .ensures
     ∙ rw (p .pay .ensures, toZ-ofZ (market-fits f), toZ-ofZ (s .fits .e), f .flow-of .ensures, h .head-at .ensures)
     (figures-are _ _ ∙ sym (flow-passed _ _ (passed q)))
 
@@ -70,5 +70,5 @@ settle-flow-spec =
     returns
     head-at-requires
     pay-requires
-    statement-of-requires
+    interval-of-requires
     returns-2)

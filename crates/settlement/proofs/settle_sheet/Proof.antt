@@ -33,7 +33,7 @@ enum-known-e c = search needs
 
 -- what the list says of the flowgate
 found-is : (c : tie.After-find) → let s = c .before .before .before .before .before .before in
-    c .find .result ≡ entitlement (now (s .args .list)) (head (contentOf (now (s .args .s))) .name)
+    c .find .result ≡ entitlement (now (s .args .list)) (head (contentOf (now (s .args .sheet))) .name)
 found-is c = rw (c .before .before .before .head-at .ensures) at (c .find .ensures)
 
 e-fits : (c : tie.After-known-told2) → SFits w64 (c .before .e .given .0 .0)

@@ -1,12 +1,12 @@
--- `put_payment` writes its lines from the last to the first.
+-- `put_amounts` writes its lines from the last to the first.
 use native.Mathlib.Omega.{arith}
 use borrow.Author.Needs.{needs}
 use Rattle.writers.specs.Text.{ascii}
 use Rattle.writers.proofs.Prepending.{nothing}
-use Rattle.printout.specs.Lines.{joined, paymentLines}
+use Rattle.printout.specs.Lines.{joined, amountLines}
 use Rattle.lines.proofs.Numbers.{line-ahead}
-use Rattle.lines.proofs.put_payment.Statement.{statement}
-use Rattle.lines.proofs.put_payment.Tie as tie
+use Rattle.line_groups.proofs.put_amounts.Statement.{statement}
+use Rattle.line_groups.proofs.put_amounts.Tie as tie
 
 slice-aggregate-put-line : tie.Need-slice-aggregate-put-line
 slice-aggregate-put-line c = search needs
@@ -26,38 +26,22 @@ slice-aggregate-put-line-3 c = search needs
 put-line-requires-3 : tie.Need-put-line-requires-3
 put-line-requires-3 c κs = search needs
 
-slice-aggregate-put-line-4 : tie.Need-slice-aggregate-put-line-4
-slice-aggregate-put-line-4 c = search needs
-
-put-line-requires-4 : tie.Need-put-line-requires-4
-put-line-requires-4 c κs = search needs
-
-slice-aggregate-put-line-5 : tie.Need-slice-aggregate-put-line-5
-slice-aggregate-put-line-5 c = search needs
-
-put-line-requires-5 : tie.Need-put-line-requires-5
-put-line-requires-5 c κs = search needs
-
 same-length : tie.Need-same-length
 same-length c = search needs
 
 returns : tie.Need-returns
-unfolding ascii joined paymentLines
+unfolding ascii joined amountLines
 returns c =
-    let l5 = c .before .before in
-    let l4 = l5 .before .before .before .before .before in
-    let l3 = l4 .before .before .before .before .before in
+    let l3 = c .before .before in
     let l2 = l3 .before .before .before .before .before in
     let l1 = l2 .before .before .before .before .before in
     let fits = l1 .before .before .before .before .fits in
     let w = line-ahead _ (fits .pjm) nothing (l1 .put-line .ensures .0) in
     let w = line-ahead _ (fits .nyiso) w (l2 .put-line2 .ensures .0) in
-    let w = line-ahead _ (fits .amount) w (l3 .put-line3 .ensures .0) in
-    let w = line-ahead _ (fits .price) w (l4 .put-line4 .ensures .0) in
-    (line-ahead _ (fits .entitlement) w (l5 .put-line5 .ensures .0), omega arith)
+    (line-ahead _ (fits .amount) w (l3 .put-line3 .ensures .0), omega arith)
 
-pub put-payment-spec : {M : Type 1} → statement M
-put-payment-spec =
+pub put-amounts-spec : {M : Type 1} → statement M
+put-amounts-spec =
     tie.close
     (tie.spec
     slice-aggregate-put-line
@@ -66,9 +50,5 @@ put-payment-spec =
     put-line-requires-2
     slice-aggregate-put-line-3
     put-line-requires-3
-    slice-aggregate-put-line-4
-    put-line-requires-4
-    slice-aggregate-put-line-5
-    put-line-requires-5
     same-length
     returns)

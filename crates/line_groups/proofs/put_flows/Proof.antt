@@ -4,9 +4,9 @@ use borrow.Author.Needs.{needs}
 use Rattle.writers.specs.Text.{ascii}
 use Rattle.writers.proofs.Prepending.{nothing}
 use Rattle.printout.specs.Lines.{joined, flowLines}
 use Rattle.lines.proofs.Numbers.{line-ahead}
-use Rattle.lines.proofs.put_flows.Statement.{statement}
-use Rattle.lines.proofs.put_flows.Tie as tie
+use Rattle.line_groups.proofs.put_flows.Statement.{statement}
+use Rattle.line_groups.proofs.put_flows.Tie as tie
 
 slice-aggregate-put-line : tie.Need-slice-aggregate-put-line
 slice-aggregate-put-line c = search needs
