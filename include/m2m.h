@@ -1,5 +1,6 @@
 /*
- * The market-to-market settlement of one flowgate and one interval (document 01), for C and C++.
+ * The market-to-market settlement of one flowgate and one interval (document 01), and of whole hours (document 02,
+ * request 1), for C and C++.
  *
  *   rt staticlib exports                                        writes target/staticlib/libexports.a
  *   cc -Iinclude my.c target/staticlib/libexports.a -o my
@@ -10,8 +11,8 @@
  * threads may call it at once. No pointer is null, also where its length is 0. The output buffer overlaps no input.
  *
  * sheet is an interval sheet and list an entitlement list, byte by byte as docs/FORMAT.md has them.
- * A refusal is the number of a row of document 01, 'Where each refusal is checked'; docs/REFUSALS.md says for each what
- * it means and how to mend the input. 0 means accepted.
+ * A refusal is the number of a row of document 01, 'Where each refusal is checked', or of a request's error;
+ * docs/REFUSALS.md says for each what it means and how to mend the input. 0 means accepted.
  */
 #ifndef M2M_H
 #define M2M_H
@@ -75,6 +76,43 @@ typedef struct m2m_entitled {
     int64_t value;
 } m2m_entitled;
 
+/* An hour holds at most so many intervals, of so many seconds together. */
+#define M2M_HOUR_INTERVALS 60
+#define M2M_HOUR_SECONDS 3600
+
+/*
+ * An hour: the intervals that it took, in order, all of one flowgate and one Monitoring RTO. m2m_hour_open begins one,
+ * and each m2m_hour_add hands back the next. It is passed and returned by value, so the caller keeps it: no call keeps
+ * anything, an old hour stays what it was, and a copy is an hour of its own. Cells behind the count are zero, and in an
+ * empty hour name and monitoring_rto too, so two hours are the same where all their fields are.
+ *
+ * A struct that was not grown from an empty hour is answered too, whatever stands in it. It holds the first count of its
+ * cells, 60 at most; with a count of 60 or more it is full. A cell's amount counts as at most 2,000,000,000,000 and at
+ * least -2,000,000,000,000; seconds count as they stand. NYISO's payment is the amount where monitoring_rto is 1, else
+ * its negative; PJM's is the negative of NYISO's.
+ */
+typedef struct m2m_hour {
+    int64_t amounts[M2M_HOUR_INTERVALS];  /* of each interval, in thousandths of a cent */
+    uint16_t seconds[M2M_HOUR_INTERVALS]; /* of each interval */
+    size_t count;                         /* how many intervals there are */
+    uint8_t name[16];                     /* their flowgate's, filled with zero bytes on the right */
+    uint8_t monitoring_rto;               /* 1 NYISO, 2 PJM; 0 in an empty hour */
+} m2m_hour;
+
+/* What came of adding: 0 and the hour with the interval, or the refusal's number and the hour as it was. */
+typedef struct m2m_changed {
+    uint8_t refusal;
+    m2m_hour hour;
+} m2m_changed;
+
+/* An hour's seconds; its amount and payments in thousandths of a cent. All are 0 of an empty hour. */
+typedef struct m2m_totals {
+    uint32_t seconds;
+    int64_t amount; /* the sum of its intervals' amounts */
+    int64_t nyiso;  /* NYISO's payment; positive means received */
+    int64_t pjm;    /* PJM's payment, the other's negative */
+} m2m_totals;
+
 /* Settles a sheet against a list. */
 m2m_statement m2m_settle(const uint8_t *sheet, size_t sheet_length, const uint8_t *list, size_t list_length);
 
@@ -90,6 +128,20 @@ m2m_sheet m2m_read(const uint8_t *sheet, size_t sheet_length);
 
 /* Looks a flowgate up in a list. Names are compared as 16 bytes, so that a name of another length is in no list. */
 m2m_entitled m2m_entitlement(const uint8_t *list, size_t list_length, const uint8_t *name, size_t name_length);
+
+/* The empty hour. */
+m2m_hour m2m_hour_open(void);
+
+/*
+ * Settles a sheet against a list, and adds the interval to the hour. The interval's own refusals, 1 to 22, come first,
+ * also in a full hour; then 24, the hour has 60 intervals; 25, its seconds and the interval's are above 3600; 26, it is
+ * not empty and of another flowgate name or Monitoring RTO. Nothing is printed, so 23 does not occur.
+ */
+m2m_changed m2m_hour_add(m2m_hour hour, const uint8_t *sheet, size_t sheet_length, const uint8_t *list,
+                         size_t list_length);
+
+/* Adds an hour up. */
+m2m_totals m2m_hour_totals(m2m_hour hour);
 
 #ifdef __cplusplus
 }

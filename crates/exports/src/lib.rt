@@ -2,9 +2,15 @@
 ghost use mathlib.Core.Path.{_≡_};
 ghost use Rattle.sheet.specs.Sheet.{readSheet};
 ghost use Rattle.entitlements.specs.Entitlements.{entitlement};
+ghost use Rattle.settlement.specs.Settled.{inputs, interval};
 ghost use Rattle.settlement.specs.Promise.{Promise};
 ghost use Rattle.report.specs.Report.{reported, left};
+ghost use Rattle.hours.specs.Hour.{opened, added};
+ghost use Rattle.grown_hours.specs.Promise.{Promise as Hour·Promise};
 ghost use Rattle.exports.specs.Answers.{readAnswer, entitlementAnswer};
+use hours::Changed;
+use hours::Hour;
+use hours::Totals;
 use listing::Printed;
 use statement::Statement;
 
@@ -79,4 +85,25 @@ pub extern "C" fn m2m_entitlement(list: &[u8], name: &[u8]) -> EntitlementAnswer
         },
         entitlements::Entitlement::Found(value) => EntitlementAnswer { refusal: 0, value },
     }
+}
+
+#[no_mangle]
+pub extern "C" fn m2m_hour_open() -> Hour
+    ensures { λ r. ⌜ r ≡ opened ⌝ }
+{
+    Hour::open()
+}
+
+#[no_mangle]
+pub extern "C" fn m2m_hour_add(hour: Hour, sheet: &[u8], list: &[u8]) -> Changed
+    ensures { λ r. ⌜ r ≡ added hour (interval (inputs (now (sheet .entry)) (now (list .entry)))) ⌝ }
+{
+    hour.add(sheet, list)
+}
+
+#[no_mangle]
+pub extern "C" fn m2m_hour_totals(hour: Hour) -> Totals
+    ensures { λ r. ⌜ Hour·Promise hour r ⌝ }
+{
+    grown_hours::totals(hour)
 }

@@ -1,0 +1,2 @@
+pub mod Hour
+pub mod Totals
