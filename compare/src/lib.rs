@@ -6,6 +6,7 @@ pub mod interval;
 pub mod library;
 pub mod mismatch;
 pub mod mistakes;
+pub mod program;
 pub mod questions;
 pub mod run;
 pub mod sides;

@@ -2,6 +2,7 @@
 
 use second::names::NameField;
 
+use crate::sides::hours::{Changed, Hour, HourTotals, Hours};
 use crate::sides::{EntitlementAnswer, Figures, Printed, ReadAnswer, Side};
 
 unsafe extern "C" {
@@ -21,6 +22,15 @@ unsafe extern "C" {
         name: *const u8,
         name_len: usize,
     ) -> EntitlementAnswer;
+    fn m2m_hour_open() -> Hour;
+    fn m2m_hour_add(
+        hour: Hour,
+        sheet: *const u8,
+        sheet_len: usize,
+        list: *const u8,
+        list_len: usize,
+    ) -> Changed;
+    fn m2m_hour_totals(hour: Hour) -> HourTotals;
 }
 
 #[derive(Default)]
@@ -52,5 +62,28 @@ impl Side for Library {
 
     fn entitlement(&self, list: &[u8], name: &NameField) -> EntitlementAnswer {
         unsafe { m2m_entitlement(list.as_ptr(), list.len(), name.as_ptr(), name.len()) }
+    }
+}
+
+// SAFETY, of each call: as above; hours are handed over as copies.
+impl Hours for Library {
+    fn open(&self) -> Hour {
+        unsafe { m2m_hour_open() }
+    }
+
+    fn add(&self, hour: &Hour, sheet: &[u8], list: &[u8]) -> Changed {
+        unsafe {
+            m2m_hour_add(
+                *hour,
+                sheet.as_ptr(),
+                sheet.len(),
+                list.as_ptr(),
+                list.len(),
+            )
+        }
+    }
+
+    fn totals(&self, hour: &Hour) -> HourTotals {
+        unsafe { m2m_hour_totals(*hour) }
     }
 }

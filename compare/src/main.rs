@@ -1,42 +1,58 @@
 //! compare: the proved settlement beside the second implementation.
 
-use std::path::PathBuf;
 use std::process::ExitCode;
 use std::time::Instant;
 
 use compare::library::Library;
-use compare::questions::{self, Question};
-use compare::run::{Plan, case_files, run, seed_of_commit};
+use compare::questions::{self, CaseFiles, Question};
+use compare::run::{Plan, asked_of, run, seed_of_commit};
 use compare::sides::{Second, Sides};
 
 const USAGE: &str = "compare [options]
   --seed N         seed of the inputs (from the commit, or 1)
-  --count M        how many seeded inputs (20000)
+  --count M        how many seeded inputs (20000), and 1 in 20 of them hours
   --only K         the K-th input of the seed alone
+  --question NAME  one question alone: settle or hour
   --cases FOLDER   folder of the case files (tests/cases)
-  --program PATH   run this program too, on the cases and some hundred inputs";
+  --hours FOLDER   folder of those of hours (tests/hours)
+  --program PATH   run this program too, settle or hour by its name; as often as
+                   there are programs";
 
-fn options(mut words: impl Iterator<Item = String>) -> Option<(Plan, PathBuf)> {
+fn options(mut words: impl Iterator<Item = String>) -> Option<(Plan, CaseFiles)> {
     let mut plan = Plan::of_seed(seed_of_commit().unwrap_or(1));
-    let mut cases = case_files();
+    let mut cases = CaseFiles::default();
     while let Some(word) = words.next() {
         let value = words.next()?;
         match word.as_str() {
             "--seed" => plan.seed = value.parse().ok()?,
             "--count" => plan.count = value.parse().ok()?,
             "--only" => plan.only = Some(value.parse().ok()?),
-            "--cases" => cases = value.into(),
-            "--program" => plan.program = Some(value.into()),
+            "--cases" => cases.settle = value.into(),
+            "--hours" => cases.hour = value.into(),
+            "--question" => plan.question = Some(value),
+            "--program" => plan.programs.push(value.into()),
             _ => return None,
         }
     }
     Some((plan, cases))
 }
 
+/// All questions, among them those that the plan names.
+fn questions_for(plan: &Plan, cases: &CaseFiles) -> Result<Vec<Box<dyn Question>>, String> {
+    let questions = questions::all(cases)?;
+    let programs = plan.programs.iter().map(|it| asked_of(it).unwrap_or(""));
+    for name in programs.chain(plan.question.as_deref()) {
+        if questions.iter().all(|question| question.name() != name) {
+            return Err(format!("no question has the name {name:?}"));
+        }
+    }
+    Ok(questions)
+}
+
 /// Tells what was met, and what never was.
-fn report(questions: &[Box<dyn Question>]) -> Vec<String> {
+fn report(plan: &Plan, questions: &[Box<dyn Question>]) -> Vec<String> {
     let mut missing = Vec::new();
-    for question in questions {
+    for question in questions.iter().filter(|it| plan.asks(it.as_ref())) {
         println!("{}: {}", question.name(), question.tally());
         missing.extend(question.tally().missing());
     }
@@ -50,7 +66,7 @@ fn main() -> ExitCode {
     };
     println!("seed {}", plan.seed);
     let began = Instant::now();
-    let mut questions = match questions::all(&cases) {
+    let mut questions = match questions_for(&plan, &cases) {
         Ok(questions) => questions,
         Err(fault) => {
             eprintln!("{fault}");
@@ -67,7 +83,7 @@ fn main() -> ExitCode {
         println!("{trouble}");
         return ExitCode::FAILURE;
     }
-    let missing = report(&questions);
+    let missing = report(&plan, &questions);
     println!("no mismatch");
     if missing.is_empty() || plan.only.is_some() {
         return ExitCode::SUCCESS;

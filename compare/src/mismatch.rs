@@ -1,6 +1,6 @@
 //! What a comparison can find.
 
-use std::fmt::Display;
+use std::fmt::{Debug, Display};
 
 /// An answer on which the sides differ, or that is not as accurate as demanded.
 #[derive(Debug)]
@@ -25,6 +25,15 @@ impl Mismatch {
             answers: [format!("expected: {expected}"), format!("{side}: {found}")],
         }
     }
+}
+
+/// Holds an answer of both sides against each other.
+pub fn same<T: PartialEq + Debug>(what: &str, second: T, tested: T) -> Result<(), Mismatch> {
+    if second == tested {
+        return Ok(());
+    }
+    let [second, tested] = [second, tested].map(|answer| format!("{answer:?}"));
+    Err(Mismatch::of(what, second, tested))
 }
 
 /// An input that can be shown.

@@ -1,13 +1,15 @@
 //! What is asked of both sides. A question has its own inputs, check, tally and
 //! landmarks; another one adds a file here and a line to `all`.
 
+pub mod hour;
 pub mod settle;
 
-use std::path::Path;
+use std::path::{Path, PathBuf};
 
 use crate::mismatch::Trouble;
 use crate::sides::Sides;
 use crate::tally::Tally;
+use crate::text::root;
 
 pub type Outcome = Result<(), Box<Trouble>>;
 
@@ -16,6 +18,11 @@ pub trait Question {
 
     /// The inputs that every run makes: case files, and inputs made for a landmark.
     fn directed(&mut self, sides: &Sides, seed: u64) -> Outcome;
+
+    /// How many seeded inputs it takes in a run that has so many for `settle`.
+    fn share(&self, count: u64) -> u64 {
+        count
+    }
 
     /// The k-th input of a seed.
     fn seeded(&mut self, sides: &Sides, seed: u64, k: u64) -> Outcome;
@@ -29,7 +36,25 @@ pub trait Question {
     fn tally(&self) -> &Tally;
 }
 
-/// All questions, with the case files below a folder.
-pub fn all(cases: &Path) -> Result<Vec<Box<dyn Question>>, String> {
-    Ok(vec![Box::new(settle::Settle::with_cases(cases)?)])
+/// The folders of the case files.
+pub struct CaseFiles {
+    pub settle: PathBuf,
+    pub hour: PathBuf,
+}
+
+impl Default for CaseFiles {
+    fn default() -> Self {
+        CaseFiles {
+            settle: root().join("tests/cases"),
+            hour: root().join("tests/hours"),
+        }
+    }
+}
+
+/// All questions, with their case files.
+pub fn all(cases: &CaseFiles) -> Result<Vec<Box<dyn Question>>, String> {
+    Ok(vec![
+        Box::new(settle::Settle::with_cases(&cases.settle)?),
+        Box::new(hour::Hours::with_cases(&cases.hour)?),
+    ])
 }

@@ -10,11 +10,14 @@ use crate::text::root;
 /// What a run is made of.
 pub struct Plan {
     pub seed: u64,
-    /// How many seeded inputs there are for each question.
+    /// How many seeded inputs there are for `settle`; other questions take a share.
     pub count: u64,
     /// One of the seeded inputs alone.
     pub only: Option<u64>,
-    pub program: Option<PathBuf>,
+    /// One of the questions alone.
+    pub question: Option<String>,
+    /// Each bears its question's name.
+    pub programs: Vec<PathBuf>,
 }
 
 impl Plan {
@@ -23,14 +26,20 @@ impl Plan {
             seed,
             count: 20_000,
             only: None,
-            program: None,
+            question: None,
+            programs: Vec::new(),
         }
+    }
+
+    pub fn asks(&self, question: &dyn Question) -> bool {
+        let only = self.question.as_deref();
+        only.is_none_or(|name| name == question.name())
     }
 }
 
-/// The case files of the repository.
-pub fn case_files() -> PathBuf {
-    root().join("tests/cases")
+/// The question that a program answers.
+pub fn asked_of(program: &Path) -> Option<&str> {
+    program.file_name()?.to_str()
 }
 
 /// The seed of the commit that is checked out: its first 16 hexadecimal digits.
@@ -44,18 +53,20 @@ pub fn seed_of_commit() -> Option<u64> {
 
 /// Asks the questions one by one; the first mismatch ends the run.
 pub fn run(plan: &Plan, sides: &Sides, questions: &mut [Box<dyn Question>]) -> Outcome {
-    for question in questions {
+    for question in questions.iter_mut().filter(|it| plan.asks(it.as_ref())) {
         if let Some(k) = plan.only {
             question.seeded(sides, plan.seed, k)?;
             continue;
         }
         question.directed(sides, plan.seed)?;
-        for k in 0..plan.count {
+        for k in 0..question.share(plan.count) {
             question.seeded(sides, plan.seed, k)?;
         }
         question.sweeps(sides, plan.seed)?;
-        if let Some(program) = &plan.program {
-            question.program(Path::new(program), plan.seed)?;
+        for program in &plan.programs {
+            if asked_of(program) == Some(question.name()) {
+                question.program(program, plan.seed)?;
+            }
         }
     }
     Ok(())

@@ -1,7 +1,11 @@
 //! The two sides of the comparison answer the same questions, in plain numbers: what
 //! a side says is compared as it stands, sensible or not.
 
+pub mod hours;
+
 use second::names::NameField;
+
+use hours::Hours;
 
 /// A statement; a refused one has the number and zeros everywhere else.
 #[derive(Clone, Copy, Debug, Default, PartialEq, Eq)]
@@ -64,7 +68,7 @@ pub struct EntitlementAnswer {
     pub value: i64,
 }
 
-pub trait Side {
+pub trait Side: Hours {
     fn settle(&self, sheet: &[u8], list: &[u8]) -> Figures;
     fn report(&self, sheet: &[u8], list: &[u8], out: &mut [u8]) -> Printed;
     fn read(&self, sheet: &[u8]) -> ReadAnswer;
@@ -86,6 +90,10 @@ pub struct Rounded {
 pub trait Reference: Side {
     /// Judges the accuracy of an accepted sheet's figures.
     fn judge(&self, sheet: &[u8], rounded: &Rounded) -> Result<(), String>;
+
+    /// Judges the amount of an hour by its accepted sheets, each with its entitlement
+    /// in tenths of a MW.
+    fn judge_hour(&self, intervals: &[(&[u8], i64)], amount: i64) -> Result<(), String>;
 }
 
 pub struct Sides<'a> {
@@ -202,7 +210,20 @@ macro_rules! reference {
                 };
                 $second::exact::judge(&sheet, Power(rounded.entitlement), &figures)
             }
+
+            fn judge_hour(&self, intervals: &[(&[u8], i64)], amount: i64) -> Result<(), String> {
+                use $second::units::{Amount, Power};
+                let mut sheets = Vec::with_capacity(intervals.len());
+                for (sheet, entitlement) in intervals {
+                    let sheet = $second::reader::read(sheet);
+                    let sheet = sheet.map_err(|it| it.refusal.to_string())?;
+                    sheets.push((sheet, Power(*entitlement)));
+                }
+                $second::exact::judge_hour(&sheets, Amount(amount))
+            }
         }
+
+        $crate::hours!($name, $second);
     };
 }
 

@@ -47,9 +47,19 @@ pub fn entitlements(bytes: &[u8]) -> String {
     shown(&["show-entitlements"], bytes)
 }
 
-/// The case files below a folder, their bytes in hexadecimal digits.
-pub fn cases(folder: &Path) -> Result<String, String> {
-    tool(&["cases", &folder.to_string_lossy()], &[])
+/// The lines of each case file below a folder, bytes in hexadecimal digits.
+pub fn cases(folder: &Path) -> Result<Vec<Vec<String>>, String> {
+    let text = tool(&["cases", &folder.to_string_lossy()], &[])?;
+    let cases = text.split_terminator("end\n");
+    Ok(cases
+        .map(|case| case.lines().map(String::from).collect())
+        .collect())
+}
+
+/// A case file's path, below the repository's root where it stands there.
+pub fn below_root(path: &str) -> String {
+    let root = format!("{}/", root().display());
+    path.strip_prefix(&root).unwrap_or(path).to_string()
 }
 
 pub fn hex(bytes: &[u8]) -> String {

@@ -154,6 +154,17 @@ pub fn judge(sheet: &Sheet, entitlement: Power, rounded: &Rounded) -> Result<(),
     within("amount", rounded.amount.0, &amount, &amount_bound(sheet))
 }
 
+/// Judges an hour's amount by its accepted intervals, each with its entitlement: it is
+/// no further from the sum of the exact amounts than their bounds together.
+pub fn judge_hour(intervals: &[(Sheet, Power)], rounded: Amount) -> Result<(), String> {
+    let (mut exact, mut bound) = (Fraction::whole(0), Fraction::whole(0));
+    for (sheet, entitlement) in intervals {
+        exact = &exact + &amount(sheet, &market_flow(sheet), *entitlement);
+        bound = &bound + &amount_bound(sheet);
+    }
+    within("amount of the hour", rounded.0, &exact, &bound)
+}
+
 /// The generation-to-load flow is the exact one exactly when net load × second
 /// remainder = final generation × first remainder, and never more than 1 W off.
 fn judge_target(sheet: &Sheet, target: Target, rounded: &GenerationToLoad) -> Result<(), String> {

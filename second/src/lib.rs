@@ -1,5 +1,5 @@
-//! A second implementation of the flowgate settlement, written from document 01
-//! alone. The proved program is compared with it, input by input, and timed
+//! A second implementation of the flowgate settlement, written from documents 01 and
+//! 02 alone. The proved programs are compared with it, input by input, and timed
 //! beside it.
 
 pub mod balance;
@@ -9,6 +9,7 @@ pub mod entitlement;
 pub mod exact;
 pub mod flow;
 pub mod fraction;
+pub mod hour;
 pub mod layout;
 pub mod listing;
 pub mod names;
@@ -19,6 +20,7 @@ pub mod settle;
 pub mod sheet;
 pub mod units;
 
+pub use hour::Hour;
 pub use listing::{listing, printed, report};
 pub use names::Name;
 pub use refusal::Refusal;

@@ -1,4 +1,5 @@
-//! The refusals of document 01's table, by its numbers.
+//! The refusals by their numbers: those of document 01's table, and those that
+//! requests add.
 
 use std::fmt;
 
@@ -33,12 +34,19 @@ pub enum Refusal {
     FinalGenerationBelowZero = 21,
     FlowOutOfRange = 22,
     BufferTooShort = 23,
+    /// The hour has 60 intervals.
+    FullHour = 24,
+    /// The hour's seconds would pass 3600.
+    PastTheHour = 25,
+    /// Another flowgate name or Monitoring RTO than the hour's.
+    OtherFlowgate = 26,
 }
 
 impl Refusal {
-    pub const LAST: Refusal = Refusal::BufferTooShort;
+    /// The last that an interval's statement can meet.
+    pub const LAST_OF_STATEMENT: Refusal = Refusal::BufferTooShort;
 
-    pub fn number(self) -> u8 {
+    pub const fn number(self) -> u8 {
         self as u8
     }
 }

@@ -4,11 +4,12 @@ use crate::layout::{Fields, Kind};
 use crate::names::Name;
 use crate::units::{Factor, Power, Price, Seconds};
 
-/// A grid operator.
+/// A grid operator, by its code.
 #[derive(Clone, Copy, Debug, PartialEq, Eq)]
+#[repr(u8)]
 pub enum Rto {
-    Nyiso,
-    Pjm,
+    Nyiso = 1,
+    Pjm = 2,
 }
 
 /// The type of a scheduling point, the class of a PAR.

@@ -95,6 +95,18 @@ fn list_row(what: &str, list: &[u8], name: &NameField) {
     row(what, list.len(), Box::new(question));
 }
 
+/// Opens an hour and adds the sheets, each with the same list.
+fn hour_row(what: &str, sheets: &[Vec<u8>], list: &[u8]) {
+    let grown = |side: &dyn Side| {
+        let add = |hour, sheet: &Vec<u8>| side.add(&hour, sheet, list).hour;
+        sheets.iter().fold(side.open(), add)
+    };
+    assert_eq!(grown(&Second).count, sheets.len(), "one is refused");
+    let question = |side: &dyn Side| side.totals(&grown(side)).amount;
+    let bytes = sheets.iter().map(|sheet| sheet.len() + list.len()).sum();
+    row(what, bytes, Box::new(question));
+}
+
 /// Names of 16 random bytes, in random or in rising order.
 fn names(chance: &mut Chance, count: usize, rising: bool) -> Vec<NameField> {
     let mut names: Vec<NameField> = (0..count)
@@ -210,6 +222,24 @@ fn eight(chance: &mut Chance) {
     in_turn("eight short sheets in turn, each", &shapes(short, chance));
 }
 
+/// Twelve accepted sheets of one flowgate and 300 s each.
+fn hour(chance: &mut Chance) {
+    let flowgate = names(chance, 1, false)[0];
+    let list = draft::entitlement(flowgate, 5);
+    let mut sheets = Vec::new();
+    while sheets.len() < 12 {
+        let mut longest = interval(chance, Sizes::LONGEST, false);
+        longest.head.name = flowgate;
+        longest.head.monitoring = 2;
+        longest.head.seconds = 300;
+        let sheet = longest.records().concat();
+        if Second.settle(&sheet, &list).refusal == 0 {
+            sheets.push(sheet);
+        }
+    }
+    hour_row("hour of twelve longest sheets, one entry", &sheets, &list);
+}
+
 /// The slowest names that anyone can write.
 fn crafted(chance: &mut Chance) {
     let names = one_bucket(chance, 2_500);
@@ -238,6 +268,8 @@ fn main() {
     growth(chance);
     println!("Different sheets, one entry each, random names:");
     eight(chance);
+    println!("Whole hours:");
+    hour(chance);
     println!("Crafted names:");
     crafted(chance);
 }

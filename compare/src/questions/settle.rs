@@ -4,8 +4,8 @@ mod cases;
 mod check;
 mod directed;
 mod expected;
-mod faults;
-mod inputs;
+pub(super) mod faults;
+pub(super) mod inputs;
 mod landmarks;
 mod one_record;
 mod program;
@@ -17,6 +17,7 @@ use second::Refusal;
 
 use crate::chance::Chance;
 use crate::mismatch::{Mismatch, Shown, Trouble};
+use crate::program::Program;
 use crate::questions::{Outcome, Question};
 use crate::sides::{Side, Sides};
 use crate::tally::Tally;
@@ -25,7 +26,6 @@ use cases::Case;
 use check::Answer;
 use directed::Directed;
 use expected::Expected;
-use program::Program;
 
 /// The output buffer's length.
 #[derive(Clone, Copy, Debug)]
@@ -55,7 +55,7 @@ impl Input {
     }
 
     /// What the second implementation answers.
-    fn answer(&self) -> Answer {
+    pub fn answer(&self) -> Answer {
         second::settle(&self.sheet, &self.list)
     }
 
@@ -98,7 +98,7 @@ pub struct Settle {
 impl Settle {
     /// With the case files below a folder.
     pub fn with_cases(folder: &Path) -> Result<Self, String> {
-        let refusals = 1..=Refusal::LAST.number();
+        let refusals = 1..=Refusal::LAST_OF_STATEMENT.number();
         let answers = [String::from("accepted")]
             .into_iter()
             .chain(refusals.map(|number| format!("refused {number}")));
@@ -191,7 +191,7 @@ impl Settle {
 
     /// Every refusal by itself and with every other one, anywhere on the input.
     fn rows_anywhere(&mut self, sides: &Sides, seed: u64) -> Outcome {
-        let last = Refusal::LAST.number();
+        let last = Refusal::LAST_OF_STATEMENT.number();
         for row in 1..=last {
             for other in row..=last {
                 let chance = &mut Chance::of(seed, u64::MAX - 1);
@@ -235,14 +235,14 @@ impl Question for Settle {
     fn program(&mut self, path: &Path, seed: u64) -> Outcome {
         let what = format!("program {}", path.display());
         let program = Program::at(path).map_err(|error| Trouble::outside(&what, error))?;
-        let mut runs = program.check_absent_files()?;
+        let mut runs = program::check_absent_files(&program)?;
         let directed = self.directed_inputs(seed);
         let cases = self.cases.iter().map(|case| case.input.clone());
         let directed = directed.iter().map(|(input, _)| input.clone());
         let seeded = (0..PROGRAM_INPUTS).map(|k| inputs::input(seed, k));
         let inputs = cases.chain(directed).chain(seeded);
         for input in inputs.chain(program::long_files()) {
-            program.check(&input).map_err(|it| input.trouble(it))?;
+            program::check(&program, &input).map_err(|it| input.trouble(it))?;
             runs += 1;
         }
         println!("{what}: {runs} runs");

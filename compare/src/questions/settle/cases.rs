@@ -15,18 +15,10 @@ pub struct Case {
 
 /// All cases below a folder.
 pub fn load(folder: &Path) -> Result<Vec<Case>, String> {
-    let mut cases = Vec::new();
-    let mut lines = Vec::new();
-    for line in text::cases(folder)?.lines() {
-        if line == "end" {
-            let case = parse(&lines).ok_or(format!("not understood: {lines:?}"))?;
-            cases.push(case);
-            lines.clear();
-        } else {
-            lines.push(line.to_string());
-        }
-    }
-    Ok(cases)
+    let cases = text::cases(folder)?.into_iter();
+    cases
+        .map(|lines| parse(&lines).ok_or(format!("not understood: {lines:?}")))
+        .collect()
 }
 
 fn parse(lines: &[String]) -> Option<Case> {
@@ -39,7 +31,7 @@ fn parse(lines: &[String]) -> Option<Case> {
     for line in lines {
         let (word, rest) = line.split_once(' ').unwrap_or((line, ""));
         match word {
-            "case" => case.input.origin = below_root(rest),
+            "case" => case.input.origin = text::below_root(rest),
             "sheet" => case.input.sheet = from_hex(rest)?,
             "entitlements" => case.input.list = from_hex(rest)?,
             "buffer" => case.input.room = Room::Length(rest.parse().ok()?),
@@ -50,12 +42,6 @@ fn parse(lines: &[String]) -> Option<Case> {
         }
     }
     Some(case)
-}
-
-/// A case file's path, below the repository's root where it stands there.
-fn below_root(path: &str) -> String {
-    let root = format!("{}/", text::root().display());
-    path.strip_prefix(&root).unwrap_or(path).to_string()
 }
 
 fn expected(text: &str) -> Option<Expected> {

@@ -1,7 +1,5 @@
 //! One input on both sides.
 
-use std::fmt::Debug;
-
 use second::draft;
 use second::layout::{ENTITLEMENT_RECORD, Kind, NAME};
 use second::names::NameField;
@@ -10,17 +8,9 @@ use second::sheet::{Sheet, Subject};
 use second::units::Power;
 use second::{Refusal, Statement, listing};
 
-use crate::mismatch::Mismatch;
+use crate::mismatch::{Mismatch, same};
 use crate::questions::settle::{Input, Room};
 use crate::sides::{Figures, Rounded, Sides};
-
-fn same<T: PartialEq + Debug>(what: &str, second: T, tested: T) -> Result<(), Mismatch> {
-    if second == tested {
-        return Ok(());
-    }
-    let [second, tested] = [second, tested].map(|answer| format!("{answer:?}"));
-    Err(Mismatch::of(what, second, tested))
-}
 
 pub type Answer = Result<Statement, Refusal>;
 

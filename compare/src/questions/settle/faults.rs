@@ -14,7 +14,7 @@ use crate::questions::settle::inputs::{list_with, sound};
 use crate::questions::settle::{Input, Room};
 
 fn any_row(chance: &mut Chance) -> u8 {
-    1 + chance.below(usize::from(Refusal::LAST.number())) as u8
+    1 + chance.below(usize::from(Refusal::LAST_OF_STATEMENT.number())) as u8
 }
 
 /// An input that is made to meet one row.
@@ -401,7 +401,7 @@ mod tests {
     /// A planted row is nearly always the one that is met.
     #[test]
     fn each_row_is_met_by_itself() {
-        for row in 1..=Refusal::LAST.number() {
+        for row in 1..=Refusal::LAST_OF_STATEMENT.number() {
             let met = (0..60).filter(|k| {
                 let input = planted(&mut Chance::of(u64::from(row), *k), &[row]);
                 let mut out = vec![0; room(&input, &input.answer())];
