@@ -1,8 +1,9 @@
 #!/usr/bin/env python3
-"""under_valgrind.py PROGRAM COUNT: the settlement under valgrind.
+"""under_valgrind.py PROGRAM.. COUNT: the settlement under valgrind.
 
-The library settles every case file in one process, each input in a block of memory of just its length. The program runs
-on COUNT of the case files, spread over all of them, and on what it meets otherwise: missing files, a folder, usage.
+The library settles every case file in one process, each input in a block of memory of just its length, and adds it to
+hours. Each program, `settle` or `hour`, runs on COUNT of its case files, spread over all of them, and on what it meets
+otherwise: missing files, a folder, usage.
 """
 import os
 import subprocess
@@ -13,22 +14,25 @@ ROOT = os.path.dirname(os.path.dirname(os.path.abspath(__file__)))
 ARCHIVE = os.path.join(ROOT, "target/staticlib/libexports.a")
 
 
-def cases():
+def cases(folder):
+    """The name of each case below a folder of tests/, and its sheets, each with its list."""
     text = subprocess.run(
-        [os.path.join(ROOT, "tools/m2m"), "text", "cases", os.path.join(ROOT, "tests/cases")],
+        [os.path.join(ROOT, "tools/m2m"), "text", "cases", os.path.join(ROOT, "tests", folder)],
         check=True,
         capture_output=True,
         text=True,
     ).stdout
-    name, files = None, {}
+    name, intervals = None, []
     for line in text.splitlines():
         word, _, rest = line.partition(" ")
         if word == "case":
-            name, files = rest, {}
-        elif word in ("sheet", "entitlements"):
-            files[word] = bytes.fromhex(rest)
+            name, intervals = rest, []
+        elif word == "sheet":
+            intervals.append([bytes.fromhex(rest)])
+        elif word == "entitlements":
+            intervals[-1].append(bytes.fromhex(rest))
         elif word == "end":
-            yield name, files.get("sheet", b""), files.get("entitlements", b"")
+            yield name, intervals
 
 
 def watched(what, program, *arguments, told="", **how):
@@ -53,28 +57,63 @@ def library(every, folder):
         ["cc", "-std=c11", "-D_GNU_SOURCE", "-g", "-Wall", "-Wextra", "-Werror", include, "-o", program, source, ARCHIVE],
         check=True,
     )
-    lines = ["%s %s\n" % (sheet.hex() or "-", list_.hex() or "-") for _, sheet, list_ in every]
+    lines = []
+    for _, intervals in every:
+        lines += ["hour\n", *(" ".join(part.hex() or "-" for part in interval) + "\n" for interval in intervals)]
     watched("the library", program, input="".join(lines))
 
 
-def main(program, count):
-    program = os.path.abspath(program)
-    every = list(cases())
-    chosen = every[:: -(-len(every) // count)]
+def write(folder, name, content):
+    with open(os.path.join(folder, name), "wb") as out:
+        out.write(content)
+
+
+def spread(every, count):
+    return every[:: -(-len(every) // count)]
+
+
+def settle(program, count, folder):
+    chosen = spread(list(cases("cases")), count)
+    for name, [(sheet, entitlements)] in chosen:
+        write(folder, "sheet.bin", sheet)
+        write(folder, "entitle.bin", entitlements)
+        watched(name, program, cwd=folder)
+    watched("two names", program, "sheet.bin", "entitle.bin", cwd=folder)
+    missing = "settle: none: No such file or directory\n"
+    watched("missing", program, "none", "entitle.bin", told=missing, cwd=folder)
+    watched("a folder", program, "sheet.bin", ".", told="settle: .: Is a directory\n", cwd=folder)
+    usage = subprocess.run([program, "--help"], capture_output=True, text=True).stderr
+    watched("usage", program, "--help", told=usage, cwd=folder)
+    return len(chosen)
+
+
+def hour(program, count, folder):
+    """The program takes one list: that of the case's last sheet."""
+    chosen = spread(list(cases("hours")), count)
+    for name, intervals in chosen:
+        names = ["%d.bin" % k for k in range(len(intervals))]
+        for file, (sheet, entitlements) in zip(names, intervals):
+            write(folder, file, sheet)
+            write(folder, "entitle.bin", entitlements)
+        watched(name, program, "entitle.bin", *names, cwd=folder)
+    missing = "hour: none: No such file or directory\n"
+    watched("a missing list", program, "none", "0.bin", told=missing, cwd=folder)
+    watched("a missing sheet", program, "entitle.bin", "none", "0.bin", told=missing, cwd=folder)
+    watched("a folder", program, "entitle.bin", ".", told="hour: .: Is a directory\n", cwd=folder)
+    usage = subprocess.run([program], capture_output=True, text=True).stderr
+    watched("usage", program, told=usage, cwd=folder)
+    return len(chosen)
+
+
+def main(programs, count):
+    every = [*cases("cases"), *cases("hours")]
     with tempfile.TemporaryDirectory() as folder:
         library(every, folder)
-        for name, sheet, entitlements in chosen:
-            for file, content in (("sheet.bin", sheet), ("entitle.bin", entitlements)):
-                with open(os.path.join(folder, file), "wb") as out:
-                    out.write(content)
-            watched(name, program, cwd=folder)
-        watched("two names", program, "sheet.bin", "entitle.bin", cwd=folder)
-        missing = "settle: none: No such file or directory\n"
-        watched("missing", program, "none", "entitle.bin", told=missing, cwd=folder)
-        watched("a folder", program, "sheet.bin", ".", told="settle: .: Is a directory\n", cwd=folder)
-        usage = subprocess.run([program, "--help"], capture_output=True, text=True).stderr
-        watched("usage", program, "--help", told=usage, cwd=folder)
-    print("%d cases in the library, %d in the program, nothing found" % (len(every), len(chosen)))
+        done = ["%d cases in the library" % len(every)]
+        for program in map(os.path.abspath, programs):
+            name = os.path.basename(program)
+            done.append("%d in %s" % ({"settle": settle, "hour": hour}[name](program, count, folder), name))
+    print(", ".join(done) + ", nothing found")
 
 
-main(sys.argv[1], int(sys.argv[2]))
+main(sys.argv[1:-1], int(sys.argv[-1]))

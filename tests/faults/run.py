@@ -1,84 +1,24 @@
 #!/usr/bin/env python3
 """run.py PROGRAM: the program `settle` on files and outputs that fail.
 
-A shared object that is preloaded (shim.c) makes chosen calls fail, be interrupted or move fewer bytes. Whatever fails
-must be told on standard error, and no statement may be accepted from a part of a file.
+Whatever fails must be told on standard error, and no statement may be accepted from a part of a file.
 """
 import errno
 import os
-import re
-import resource
-import signal
 import stat
-import subprocess
 import sys
-import tempfile
 import threading
+from functools import partial
 
-HERE = os.path.dirname(os.path.abspath(__file__))
-ROOT = os.path.dirname(os.path.dirname(HERE))
-DATA = os.path.join(ROOT, "crates/settle/data")
+sys.dont_write_bytecode = True
 
+from runs import (
+    LIST, REPEATED, SHEET, content, failing_outputs, interrupted_calls, run_all, said_by_page, same, told_by, why,
+)
 
-def content(name):
-    with open(os.path.join(DATA, name), "rb") as file:
-        return file.read()
-
-
-SHEET, LIST = content("sheet.bin"), content("entitle.bin")
-with open(os.path.join(ROOT, "crates/settle/stdout"), "rb") as file:
-    LISTING = file.read()
-# The list that made an accepted statement from its first 21 bytes: the flowgate's name stands in it twice.
-REPEATED = LIST + LIST
+LISTING = content("crates/settle/stdout")
 USAGE = b"usage: settle [SHEET LIST]\n"
-
-
-def why(number):
-    return os.strerror(number).encode()
-
-
-def told(name, number):
-    return b"settle: " + name.encode() + b": " + why(number) + b"\n"
-
-
-class Runs:
-    def __init__(self, program, shim, folder):
-        self.program, self.shim, self.folder, self.count = program, shim, folder, 0
-
-    def __call__(self, faults="", arguments=(), **how):
-        """The run's standard output, standard error and status."""
-        self.count += 1
-        environment = {"PATH": os.environ.get("PATH", ""), "LC_ALL": "C"}
-        if faults:
-            environment.update(LD_PRELOAD=self.shim, FAULTS=faults)
-        run = subprocess.run(
-            [self.program, *arguments],
-            cwd=self.folder,
-            env=environment,
-            stdin=how.pop("stdin", subprocess.DEVNULL),
-            stdout=how.pop("stdout", subprocess.PIPE),
-            stderr=how.pop("stderr", subprocess.PIPE),
-            timeout=60,
-            **how,
-        )
-        return run.stdout, run.stderr, run.returncode
-
-    def put(self, sheet=SHEET, entitlements=LIST):
-        for name, bytes_ in (("sheet.bin", sheet), ("entitle.bin", entitlements)):
-            path = os.path.join(self.folder, name)
-            if os.path.lexists(path):
-                os.rmdir(path) if os.path.isdir(path) and not os.path.islink(path) else os.unlink(path)
-            if bytes_ is not None:
-                with open(path, "wb") as file:
-                    file.write(bytes_)
-
-    def path(self, name):
-        return os.path.join(self.folder, name)
-
-
-def same(found, out, err=b"", status=0, of=""):
-    if found != (out, err, status):
-        raise AssertionError("%s\nexpected %r\nfound    %r" % (of, (out, err, status), found))
+told = partial(told_by, "settle")
 
 
 def reading(run):
@@ -111,16 +51,7 @@ def reading(run):
 
 
 def interrupted(run):
-    """A call that a signal interrupts is made again, and short ones go on: nothing is to be seen of it."""
-    run.put()
-    for call in ("open:1", "open:2", "read:1", "read:2", "read:3", "read:4", "write:1"):
-        same(run(call + ":4"), LISTING, of=call + " interrupted")
-    many = ["%s:%d:4" % (call, n) for call in ("open", "read", "write") for n in range(1, 40)]
-    same(run(" ".join(many)), LISTING, of="many calls interrupted")
-    for k in (1, 2, 3, 7, 20, 21, 22, 100, 313, 314, 315):
-        same(run("read:*:short=%d write:*:short=%d" % (k, k)), LISTING, of="%d bytes a call" % k)
-    twice = ["%s:%d:4" % (call, n) for call in ("read", "write") for n in range(1, 700, 2)]
-    same(run(" ".join(twice + ["read:*:short=1", "write:*:short=1"])), LISTING, of="interrupted between bytes")
+    interrupted_calls(run, files=2)
 
 
 def writing(run):
@@ -145,46 +76,8 @@ def writing(run):
 
 
 def outputs(run):
-    """A full disk, a closed output, a pipe that nobody reads, a limit on the file's size."""
-    run.put()
-    with open("/dev/full", "wb") as full:
-        same(run(stdout=full), None, told("standard output", errno.ENOSPC), of="a full disk")
-    for closed in ((1,), (0, 1)):
-        same(
-            run(preexec_fn=lambda: [os.close(fd) for fd in closed]),
-            b"",
-            told("standard output", errno.EBADF),
-            of="closed output",
-        )
-    for closed in ((0,), (2,), (0, 2)):
-        same(run(preexec_fn=lambda: [os.close(fd) for fd in closed]), LISTING, of="closed %r" % (closed,))
+    failing_outputs(run)
     same(run("read:3:5", preexec_fn=lambda: os.close(2)), b"refused 15\n", of="closed standard error")
-    for name, limit, by in (("pipe", None, signal.SIGPIPE), ("size", 50, signal.SIGXFSZ)):
-        for ignored in (False, True):
-
-            def begin():
-                signal.signal(by, signal.SIG_IGN if ignored else signal.SIG_DFL)
-                if limit is not None:
-                    resource.setrlimit(resource.RLIMIT_FSIZE, (limit, limit))
-
-            if limit is None:
-                reader, writer = os.pipe()
-                os.close(reader)
-                out, err, status = run(stdout=writer, preexec_fn=begin, restore_signals=False)
-                os.close(writer)
-                number, left = errno.EPIPE, b""
-            else:
-                with open(run.path("out"), "w+b") as file:
-                    out, err, status = run(stdout=file, preexec_fn=begin, restore_signals=False)
-                    file.seek(0)
-                    left = file.read()
-                number = errno.EFBIG
-                assert left == LISTING[:limit], left
-            # By default the system ends the program, which its status tells.
-            if ignored:
-                assert (err, status) == (told("standard output", number), 0), (name, err, status)
-            else:
-                assert status == -by, (name, err, status)
 
 
 def unreadable(run):
@@ -251,29 +144,7 @@ def named(run):
 
 
 def manual(run):
-    """Usage says what the man page says."""
-    with open(os.path.join(ROOT, "docs/settle.1")) as file:
-        page = file.read()
-    described = page.split(".SH DESCRIPTION\n")[1].split("\n.PP")[0].replace("\\(aq", "'").split()
-    _, err, _ = run(arguments=["--help"])
-    assert err.decode().split("\n", 1)[1].split() == described, described
-    assert re.sub(r"\\f.|\.B |\n", "", page.split(".SH SYNOPSIS\n")[1].split("\n.SH")[0]) == "settle[SHEET LIST]", page
+    said_by_page(run, "docs/settle.1", ["--help"])
 
 
-def main(program):
-    program = os.path.abspath(program)
-    with tempfile.TemporaryDirectory() as folder:
-        os.chmod(folder, 0o755)
-        shim = os.path.join(folder, "shim.so")
-        subprocess.run(
-            ["cc", "-shared", "-fPIC", "-O1", "-Wall", "-Werror", "-o", shim, os.path.join(HERE, "shim.c")], check=True
-        )
-        files = os.path.join(folder, "files")
-        os.mkdir(files)
-        run = Runs(program, shim, files)
-        for part in (reading, interrupted, writing, outputs, unreadable, named, manual):
-            part(run)
-        print("%d runs, every failure told and nothing accepted from a part of a file" % run.count)
-
-
-main(sys.argv[1])
+run_all(sys.argv[1], [], LISTING, (reading, interrupted, writing, outputs, unreadable, named, manual))

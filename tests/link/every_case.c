@@ -1,5 +1,6 @@
 /* every_case: settles the cases that standard input holds, a sheet and a list in hexadecimal digits to a line ('-' for no
- * bytes), each in a block of memory of just its length, so that valgrind sees any byte read or written beside them. */
+ * bytes), each in a block of memory of just its length, so that valgrind sees any byte read or written beside them. Each is
+ * also added to an hour; a line 'hour' begins another. */
 #include "m2m.h"
 
 #include <stdio.h>
@@ -33,10 +34,23 @@ static void report(block sheet, block list, size_t room) {
     free(out);
 }
 
+static m2m_hour add(m2m_hour hour, block sheet, block list) {
+    m2m_changed c = m2m_hour_add(hour, sheet.bytes, sheet.length, list.bytes, list.length);
+    m2m_totals t = m2m_hour_totals(c.hour);
+    printf("%d %zu %d: %u %jd %jd %jd\n", c.refusal, c.hour.count, c.hour.monitoring_rto, (unsigned)t.seconds,
+           (intmax_t)t.amount, (intmax_t)t.nyiso, (intmax_t)t.pjm);
+    return c.hour;
+}
+
 int main(void) {
     char *line = NULL;
     size_t room = 0;
+    m2m_hour hour = m2m_hour_open();
     while (getline(&line, &room, stdin) > 0) {
+        if (strcmp(line, "hour\n") == 0) {
+            hour = m2m_hour_open();
+            continue;
+        }
         block sheet = read_block(strtok(line, " \n")), list = read_block(strtok(NULL, " \n"));
         m2m_statement s = m2m_settle(sheet.bytes, sheet.length, list.bytes, list.length);
         m2m_sheet r = m2m_read(sheet.bytes, sheet.length);
@@ -46,6 +60,7 @@ int main(void) {
         p = m2m_report(sheet.bytes, sheet.length, list.bytes, list.length, out, sizeof out);
         printf("%d %d %d\n", s.refusal, r.refusal, e.refusal);
         report(sheet, list, p.length);
+        hour = add(hour, sheet, list);
         free(sheet.bytes);
         free(list.bytes);
     }

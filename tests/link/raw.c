@@ -1,7 +1,8 @@
 /* raw SHEET LIST: what the archive leaves in memory, with nothing assumed of its structs. Prints a line for each function:
  * its name, and the bytes at the answer's address after a call over memory filled with 0x00 and after one over 0xff. A
- * struct of more than 16 bytes is answered at an address that the caller hands over as a first argument; the entitlement's
- * has 16 and comes in two registers (System V ABI, x86-64). */
+ * struct of more than 16 bytes is answered at an address that the caller hands over as a first argument, and handed over on
+ * the stack, where a longer one is the same; the entitlement's has 16 and comes in two registers (System V ABI, x86-64).
+ * The interval is added to an hour that has it already, if it is accepted. */
 #include <stdint.h>
 #include <stdio.h>
 #include <string.h>
@@ -12,10 +13,20 @@ typedef struct {
     uint64_t first, second;
 } registers;
 
+typedef struct {
+    uint8_t bytes[ROOM];
+} block;
+
+/* In the answer of m2m_hour_add the hour follows the refusal's byte, at the next multiple of 8. */
+enum { HOUR_AT = 8 };
+
 extern void *m2m_settle(void *, const uint8_t *, size_t, const uint8_t *, size_t);
 extern void *m2m_report(void *, const uint8_t *, size_t, const uint8_t *, size_t, uint8_t *, size_t);
 extern void *m2m_read(void *, const uint8_t *, size_t);
 extern registers m2m_entitlement(const uint8_t *, size_t, const uint8_t *, size_t);
+extern void *m2m_hour_open(void *);
+extern void *m2m_hour_add(void *, block, const uint8_t *, size_t, const uint8_t *, size_t);
+extern void *m2m_hour_totals(void *, block);
 
 static uint8_t sheet[FILE_ROOM], list[FILE_ROOM], out[ROOM];
 static size_t sheet_length, list_length;
@@ -34,27 +45,49 @@ static void hex(const uint8_t *bytes, size_t n) {
         printf("%02x", bytes[i]);
 }
 
+/* The hour that was handed in, with the interval. */
+static block grown(block hour) {
+    block answer;
+    memset(&answer, 0, sizeof answer);
+    m2m_hour_add(&answer, hour, sheet, sheet_length, list, list_length);
+    memmove(answer.bytes, answer.bytes + HOUR_AT, ROOM - HOUR_AT);
+    return answer;
+}
+
+static const char *const names[] = {
+    "m2m_settle", "m2m_report", "m2m_read", "m2m_entitlement", "m2m_hour_open", "m2m_hour_add", "m2m_hour_totals",
+};
+
+static void call(int f, uint8_t *answer) {
+    block hour;
+    memset(&hour, 0, sizeof hour);
+    m2m_hour_open(&hour);
+    registers r;
+    switch (f) {
+    case 0: m2m_settle(answer, sheet, sheet_length, list, list_length); break;
+    case 1: m2m_report(answer, sheet, sheet_length, list, list_length, out, ROOM); break;
+    case 2: m2m_read(answer, sheet, sheet_length); break;
+    case 3:
+        r = m2m_entitlement(list, list_length, sheet + 1, 16);
+        memcpy(answer, &r, sizeof r);
+        break;
+    case 4: m2m_hour_open(answer); break;
+    case 5: m2m_hour_add(answer, grown(hour), sheet, sheet_length, list, list_length); break;
+    case 6: m2m_hour_totals(answer, grown(grown(hour))); break;
+    }
+}
+
 int main(int count, char **words) {
     if (count != 3)
         return 2;
     sheet_length = content(words[1], sheet);
     list_length = content(words[2], list);
-    static const char *const names[] = {"m2m_settle", "m2m_report", "m2m_read", "m2m_entitlement"};
-    for (int f = 0; f < 4; f++) {
+    for (int f = 0; f < (int)(sizeof names / sizeof *names); f++) {
         printf("%s", names[f]);
         for (int fill = 0; fill < 2; fill++) {
             uint8_t answer[ROOM];
             memset(answer, fill ? 0xff : 0, ROOM);
-            if (f == 0)
-                m2m_settle(answer, sheet, sheet_length, list, list_length);
-            else if (f == 1)
-                m2m_report(answer, sheet, sheet_length, list, list_length, out, ROOM);
-            else if (f == 2)
-                m2m_read(answer, sheet, sheet_length);
-            else {
-                registers r = m2m_entitlement(list, list_length, sheet + 1, 16);
-                memcpy(answer, &r, sizeof r);
-            }
+            call(f, answer);
             hex(answer, ROOM);
         }
         putchar('\n');

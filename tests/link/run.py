@@ -19,7 +19,15 @@ HERE = os.path.dirname(os.path.abspath(__file__))
 ROOT = os.path.dirname(os.path.dirname(HERE))
 ARCHIVE = os.path.join(ROOT, "target/staticlib/libexports.a")
 HEADER = os.path.join(ROOT, "include/m2m.h")
-FUNCTIONS = ("m2m_settle", "m2m_report", "m2m_read", "m2m_entitlement")
+FUNCTIONS = (
+    "m2m_settle",
+    "m2m_report",
+    "m2m_read",
+    "m2m_entitlement",
+    "m2m_hour_open",
+    "m2m_hour_add",
+    "m2m_hour_totals",
+)
 # The fields of each function's answer, as the crates name them.
 STATEMENT = (
     "refusal name gtl first_remainder second_remainder parallel shadow common noncommon market entitlement price amount"
@@ -30,6 +38,9 @@ FIELDS = {
     "m2m_report": STATEMENT + ["length"],
     "m2m_read": "refusal place zones units points pars factors".split(),
     "m2m_entitlement": ["refusal", "value"],
+    "m2m_hour_open": [],  # all zeros: it stands as in the answer of m2m_hour_add
+    "m2m_hour_add": "refusal amounts seconds count name monitoring_rto".split(),
+    "m2m_hour_totals": "seconds amount nyiso pjm".split(),
 }
 
 
@@ -57,7 +68,8 @@ def name(word):
 def interval(chance, monitoring):
     """A sheet of three zones, five units, four points and two PARs, an entitlement list, and the tenths of a MW in it."""
     some = chance.randrange
-    sheet = struct.pack(">B16sBHII", 1, name("F%d" % some(10**9)), monitoring, 300, some(1, 9999), some(10000, 99999))
+    prices = some(1, 9999), some(10000, 99999)
+    sheet = struct.pack(">B16sBHII", 1, name("F%d" % some(10**9)), monitoring, some(300, 900), *prices)
     for k in range(3):
         sheet += struct.pack(">B16sII", 2, name("Z%d" % k), some(1000, 90000), some(100))
     for k in range(5):
@@ -81,73 +93,106 @@ def expected(sheet, listing, value):
         return None
     lines = dict(line.split(" ", 1) for line in listing.splitlines())
     gtl, first, second = lines.pop("gtl").split()
-    values = {"refusal": 0, "name": bytes.fromhex(lines.pop("flowgate")).ljust(16, b"\0")}
+    values = {"refusal": bytes(1), "name": bytes.fromhex(lines.pop("flowgate")).ljust(16, b"\0")}
     values.update(gtl=int(gtl), first_remainder=int(first), second_remainder=int(second))
     values.update((label.lower(), int(figure)) for label, figure in lines.items())
-    counts = dict(refusal=0, place=0, zones=3, units=5, points=4, pars=2, factors=14 + 24)
+    counts = dict(refusal=bytes(1), place=0, zones=3, units=5, points=4, pars=2, factors=14 + 24)
     return {
         "m2m_settle": values,
         "m2m_report": dict(values, length=len(listing)),
         "m2m_read": counts,
-        "m2m_entitlement": dict(refusal=0, value=value),
+        "m2m_entitlement": dict(refusal=bytes(1), value=value),
+        **hour_of([values] * 2, sheet),
+    }
+
+
+def hour_of(taken, sheet, refusal=0):
+    """What the hour's functions say of an hour that took these intervals of the sheet."""
+    monitoring, seconds = struct.unpack(">BH", sheet[17:20])
+    cells = [one["amount"] for one in taken] + [0] * (60 - len(taken))
+    times = [seconds] * len(taken) + [0] * (60 - len(taken))
+    return {
+        "m2m_hour_open": {},
+        "m2m_hour_add": dict(
+            refusal=bytes([refusal]),
+            amounts=struct.pack("<60q", *cells),
+            seconds=struct.pack("<60H", *times),
+            count=len(taken),
+            name=sheet[1:17] if taken else bytes(16),
+            monitoring_rto=bytes([monitoring if taken else 0]),
+        ),
+        "m2m_hour_totals": dict(
+            seconds=struct.pack("<I", sum(times)),
+            **{word: sum(one[word] for one in taken) for word in ("amount", "nyiso", "pjm")},
+        ),
     }
 
 
 def encoded(value):
-    if isinstance(value, bytes):
-        return value
-    return struct.pack("<q", value)
+    return value if isinstance(value, bytes) else struct.pack("<q", value)
+
+
+class Seen:
+    """Of each function: where the archive may put each field, how long it is, and which bytes are always written."""
+
+    def __init__(self, raw, folder):
+        self.raw, self.folder = raw, folder
+        self.places = {function: {} for function in FUNCTIONS}
+        self.sizes = {function: {} for function in FUNCTIONS}
+        self.written = {function: None for function in FUNCTIONS}
+
+    def meet(self, sheet, entitlements, values_of):
+        """Takes what the functions leave in memory, unless nothing is to be said of it."""
+        paths = []
+        for file, content in (("sheet", sheet), ("list", entitlements)):
+            paths.append(os.path.join(self.folder, file))
+            with open(paths[-1], "wb") as out:
+                out.write(content)
+        lines, _, listing = said(self.raw, *paths).partition("listing ")
+        values = values_of(listing)
+        for line in lines.splitlines() if values else ():
+            function, low, high = line.split()
+            self.take(function, bytes.fromhex(low), bytes.fromhex(high), values[function])
+        return values is not None
+
+    def take(self, function, low, high, values):
+        same = {at for at in range(len(low)) if low[at] == high[at]}
+        written, places = self.written, self.places[function]
+        written[function] = same if written[function] is None else written[function] & same
+        for field, value in values.items():
+            wanted = encoded(value)
+            found = {at for at in same if low[at : at + len(wanted)] == wanted}
+            places[field] = places.get(field, found) & found
+            self.sizes[function][field] = len(wanted)
 
 
 def seen(raw, folder):
     """Of each function: where the archive puts each field, and which bytes it always writes."""
     chance = random.Random(1)
-    places = {function: {} for function in FUNCTIONS}
-    written = {function: None for function in FUNCTIONS}
-
-    def met(sheet, entitlements, values_of):
-        paths = []
-        for file, content in (("sheet", sheet), ("list", entitlements)):
-            paths.append(os.path.join(folder, file))
-            with open(paths[-1], "wb") as out:
-                out.write(content)
-        text = said(raw, *paths)
-        lines, _, listing = text.partition("listing ")
-        values = values_of(listing)
-        if values is None:
-            return False
-        for line in lines.splitlines():
-            function, low, high = line.split()
-            low, high = bytes.fromhex(low), bytes.fromhex(high)
-            same = {at for at in range(len(low)) if low[at] == high[at]}
-            written[function] = same if written[function] is None else written[function] & same
-            for field, value in values[function].items():
-                if field == "refusal":
-                    found = {at for at in same if low[at] == value}
-                else:
-                    wanted = encoded(value)
-                    found = {at for at in same if low[at : at + len(wanted)] == wanted}
-                places[function][field] = places[function].get(field, found) & found
-        return True
-
+    memory = Seen(raw, folder)
     accepted = 0
     while accepted < 12:
         sheet, entitlements, value = interval(chance, 1 + accepted % 2)
-        accepted += met(sheet, entitlements, lambda listing: expected(sheet, listing, value))
+        accepted += memory.meet(sheet, entitlements, lambda listing: expected(sheet, listing, value))
 
     # Refusals tell the number and the place apart from zeros.
     def refused(number, place):
         zeros = {function: dict.fromkeys(fields, 0) for function, fields in FIELDS.items()}
         for function in FUNCTIONS[:2]:
-            zeros[function].update(refusal=number, name=bytes(16))
-        zeros["m2m_read"].update(refusal=number, place=place)
-        zeros["m2m_entitlement"].update(refusal=14)
-        return zeros
+            zeros[function].update(refusal=bytes([number]), name=bytes(16))
+        zeros["m2m_read"].update(refusal=bytes([number]), place=place)
+        zeros["m2m_entitlement"].update(refusal=b"\x0e")
+        return {**zeros, **hour_of([], sheet, number)}
 
     sheet = bytearray(sheet)
     sheet[28 + 25] = 9
-    met(bytes(sheet), b"\x11", lambda listing: refused(2, 28 + 25))
-    met(bytes(sheet[: 28 + 10]), b"\x11", lambda listing: refused(3, 28))
+    memory.meet(bytes(sheet), b"\x11", lambda listing: refused(2, 28 + 25))
+    memory.meet(bytes(sheet[: 28 + 10]), b"\x11", lambda listing: refused(3, 28))
+    return laid(memory.places, memory.sizes), memory.written
+
+
+def laid(places, sizes):
+    """The fields of each function's answer, each with its place and size."""
     layout = {}
     for function in FUNCTIONS:
         layout[function] = []
@@ -155,9 +200,10 @@ def seen(raw, folder):
             found = places[function][field]
             if len(found) != 1:
                 raise Wrong("%s: %s may stand at %s" % (function, field, sorted(found)))
-            size = 1 if field == "refusal" else 16 if field == "name" else 8
-            layout[function].append((field, found.pop(), size))
-    return layout, written
+            layout[function].append((field, found.pop(), sizes[function][field]))
+    _, *hour = layout["m2m_hour_add"]
+    layout["m2m_hour_open"] = [(field, at - hour[0][1], size) for field, at, size in hour]
+    return layout
 
 
 # What is declared: a function's answer as its fields with offset and size, and the size of the whole.
@@ -267,7 +313,14 @@ def python():
             else:
                 yield field, base + at.offset, at.size
 
-    answers = {"m2m_settle": library.Statement, "m2m_report": library.Printed, "m2m_read": library.Sheet}
+    answers = {
+        "m2m_settle": library.Statement,
+        "m2m_report": library.Printed,
+        "m2m_read": library.Sheet,
+        "m2m_hour_open": library.Hour,
+        "m2m_hour_add": library.Changed,
+        "m2m_hour_totals": library.Totals,
+    }
     return {function: (list(fields(kind)), ctypes.sizeof(kind)) for function, kind in answers.items()}
 
 
@@ -321,6 +374,13 @@ HEADER_EDITS = (
     ("    size_t factors;\n", "    size_t factors;\n    size_t wheels;\n"),
     ("uint8_t refusal;\n    size_t place;", "uint32_t refusal;\n    size_t place;"),
     ("uint8_t refusal;\n    int64_t value;", "int64_t value;\n    uint8_t refusal;"),
+    ("amounts", "seconds"),
+    ("M2M_HOUR_INTERVALS 60", "M2M_HOUR_INTERVALS 61"),
+    ("    size_t count; ", "    uint32_t count; "),
+    ("uint8_t monitoring_rto; ", "uint16_t monitoring_rto; "),
+    ("    uint8_t refusal;\n    m2m_hour hour;", "    m2m_hour hour;\n    uint8_t refusal;"),
+    ("    uint32_t seconds;\n", "    uint64_t seconds;\n"),
+    ("    uint32_t seconds;\n", ""),
 )
 RUST_EDITS = (
     ("nyiso", "pjm"),
@@ -329,6 +389,10 @@ RUST_EDITS = (
     ("shadow: i64,", ""),
     ("place: usize,", "place: u32,"),
     ("value: i64,", "value: i64, more: i64,"),
+    ("amounts: [i64; 60],", "amounts: [i64; 59],"),
+    ("monitoring_rto: u8,", "monitoring_rto: u16,"),
+    ("seconds: u32,", "seconds: u64,"),
+    ("    pub hour: Hour,\n", ""),
 )
 
 

@@ -1,5 +1,5 @@
 /* sheet_s SHEET LIST LISTING: a C program that links the settlement. Settles sheet S of document 01 and checks each figure,
- * the listing, the reader's counts, the entitlement, and refusals. */
+ * the listing, the reader's counts, the entitlement, refusals, and hours that take it. */
 #include "m2m.h"
 
 #include <stdio.h>
@@ -89,6 +89,76 @@ static void check_reading(const file *sheet, const file *list) {
     CHECK(e.refusal == 14 && e.value == 0);
 }
 
+static void check_totals(m2m_hour hour, uint32_t seconds, int64_t amount) {
+    m2m_totals t = m2m_hour_totals(hour);
+    int64_t nyiso = hour.monitoring_rto == 1 ? amount : -amount;
+    CHECK(t.seconds == seconds && t.amount == amount && t.nyiso == nyiso && t.pjm == -nyiso);
+}
+
+/* Adds the interval, so many seconds long, and checks the answer: the hour that it hands back. */
+static m2m_hour add(m2m_hour hour, file sheet, const file *list, unsigned seconds, uint8_t refusal) {
+    sheet.bytes[18] = (uint8_t)(seconds >> 8);
+    sheet.bytes[19] = (uint8_t)seconds;
+    m2m_changed c = m2m_hour_add(hour, sheet.bytes, sheet.length, list->bytes, list->length);
+    m2m_statement s = m2m_settle(sheet.bytes, sheet.length, list->bytes, list->length);
+    CHECK(c.refusal == refusal);
+    if (refusal == 0) {
+        hour.amounts[hour.count] = s.amount;
+        hour.seconds[hour.count] = (uint16_t)seconds;
+        hour.count++;
+        memcpy(hour.name, s.name, sizeof hour.name);
+        hour.monitoring_rto = sheet.bytes[17];
+    }
+    CHECK(memcmp(c.hour.amounts, hour.amounts, sizeof hour.amounts) == 0);
+    CHECK(memcmp(c.hour.seconds, hour.seconds, sizeof hour.seconds) == 0);
+    CHECK(c.hour.count == hour.count && c.hour.monitoring_rto == hour.monitoring_rto);
+    CHECK(memcmp(c.hour.name, hour.name, sizeof hour.name) == 0);
+    return c.hour;
+}
+
+static void check_hours(file sheet, const file *list) {
+    m2m_hour empty, hour = m2m_hour_open();
+    memset(&empty, 0, sizeof empty);
+    CHECK(memcmp(hour.amounts, empty.amounts, sizeof empty.amounts) == 0 && hour.count == 0);
+    CHECK(memcmp(hour.seconds, empty.seconds, sizeof empty.seconds) == 0 && hour.monitoring_rto == 0);
+    CHECK(memcmp(hour.name, empty.name, sizeof empty.name) == 0);
+    check_totals(hour, 0, 0);
+    for (uint32_t k = 1; k <= 12; k++) {
+        hour = add(hour, sheet, list, 300, 0);
+        check_totals(hour, 300 * k, 1328125 * (int64_t)k);
+    }
+    CHECK(m2m_hour_totals(hour).seconds == M2M_HOUR_SECONDS && m2m_hour_totals(hour).pjm == 12 * 1328125);
+    hour = add(hour, sheet, list, 1, 25);
+    hour = m2m_hour_open();
+    for (int k = 0; k < M2M_HOUR_INTERVALS; k++)
+        hour = add(hour, sheet, list, 1, 0);
+    hour = add(hour, sheet, list, 900, 24);
+    hour = add(hour, sheet, list, 901, 9);
+    hour = add(m2m_hour_open(), sheet, list, 300, 0);
+    sheet.bytes[17] = 1;
+    hour = add(hour, sheet, list, 300, 26);
+    hour = add(m2m_hour_open(), sheet, list, 300, 0);
+    CHECK(hour.monitoring_rto == 1 && m2m_hour_totals(hour).nyiso == hour.amounts[0]);
+}
+
+/* A struct that was not grown from an empty hour: what include/m2m.h says of it. */
+static void check_written(const file *sheet, const file *list) {
+    m2m_hour hour;
+    memset(&hour, 0xff, sizeof hour);
+    for (int k = 0; k < M2M_HOUR_INTERVALS; k++)
+        hour.amounts[k] = k % 3 ? INT64_MAX : INT64_MIN;
+    check_totals(hour, M2M_HOUR_INTERVALS * 65535, 20 * 2000000000000);
+    add(hour, *sheet, list, 300, 24);
+    hour.count = 2;
+    check_totals(hour, 2 * 65535, 0);
+    add(hour, *sheet, list, 300, 25);
+    hour.seconds[0] = hour.seconds[1] = 0;
+    add(hour, *sheet, list, 300, 26);
+    hour.monitoring_rto = 2;
+    memcpy(hour.name, sheet->bytes + 1, sizeof hour.name);
+    check_totals(add(hour, *sheet, list, 300, 0), 300, 1328125);
+}
+
 int main(int count, char **words) {
     if (count != 4)
         return 2;
@@ -99,5 +169,7 @@ int main(int count, char **words) {
     check_refused(m2m_settle(list.bytes, list.length, sheet.bytes, sheet.length), 1);
     check_listing(&sheet, &list, &listing);
     check_reading(&sheet, &list);
+    check_hours(sheet, &list);
+    check_written(&sheet, &list);
     return failures ? 1 : 0;
 }

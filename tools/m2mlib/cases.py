@@ -1,13 +1,46 @@
-"""Case files: a sheet, a list and what is expected of them, printed for a program."""
+"""Case files: a sheet and a list, or those of an hour, and what is expected of them, printed for a program."""
 
 import os
+from typing import NamedTuple
 
+from .blocks import Line
 from .files import read_file
+from .lines import number
 from .text import Text
 from .trouble import Fault, Trouble
 
 SECTIONS = ("sheet", "entitlements")
 SETTINGS = ("expect", "buffer", "every-truncation", "every-buffer")
+MOST_TIMES = 1000
+
+
+class Section(NamedTuple):
+    """A sheet or list, by the lines that stand below its name."""
+
+    name: str
+    begin: Line
+    lines: list
+
+    def data(self, path):
+        text = Text(path)
+        text.run(text.tree(iter(self.lines), None, 0), {})
+        return text.data()
+
+    def times(self):
+        """How often an hour is given it."""
+        words = self.begin.words[1:]
+        count = number(words[0]) if words else 1
+        if words and (self.name != "sheet" or words[1:] or not 1 <= count <= MOST_TIMES):
+            raise Fault(f"'sheet' or 'sheet TIMES' is expected, 1 to {MOST_TIMES} times").at(self.begin)
+        return count
+
+
+class Case(NamedTuple):
+    """Whether it is an hour's; the sheets in order, each with its list; what is expected, and of which sweep."""
+
+    hour: bool
+    intervals: list
+    settings: list
 
 
 def case_lines(path):
@@ -15,37 +48,60 @@ def case_lines(path):
     data = read_file(path)
     if not data.startswith(b"#"):
         raise Trouble(f"{path}: a comment must tell what the case shows")
-    texts, settings = sections(path, data)
-    if not any(setting.startswith("expect ") for setting in settings):
+    case = case_of(path, data)
+    if not any(setting.startswith("expect ") for setting in case.settings):
         raise Trouble(f"{path}: nothing is expected")
     yield f"case {path}"
-    for name in SECTIONS:
-        yield f"{name} {texts[name].data().hex()}".strip()
-    yield from settings
+    if case.hour:
+        yield "hour"
+    for interval in case.intervals:
+        for name, part in zip(SECTIONS, interval):
+            yield f"{name} {part.hex()}".strip()
+    yield from case.settings
     yield "end"
 
 
-def sections(path, data):
-    """The texts of a case's sections, and its settings."""
-    texts = {name: Text(path) for name in SECTIONS}
-    lines = {name: [] for name in SECTIONS}
-    section, seen, settings = None, set(), []
-    for line in texts["sheet"].numbered(path, data):
-        if len(line.words) == 1 and line.words[0] in SECTIONS:
-            section = line.words[0]
-            if section in seen:
-                raise Fault(f"a second section '{section}'").at(line)
-            seen.add(section)
+def case_of(path, data):
+    """The case that a text tells."""
+    hour, sections, settings, below = False, [], [], None
+    for line in Text(path).numbered(path, data):
+        if line.words[0] in SECTIONS:
+            below = Section(line.words[0], line, [])
+            sections.append(below)
         elif line.words[0] in SETTINGS:
-            section = None
+            below = None
             settings.append(" ".join(line.words))
-        elif section is None:
+        elif line.words == ["hour"] and not (hour or sections or settings):
+            hour = True
+        elif below is None:
             raise Fault("the line belongs to no section").at(line)
         else:
-            lines[section].append(line)
-    for name, text in texts.items():
-        text.run(text.tree(iter(lines[name]), None, 0), {})
-    return texts, settings
+            below.lines.append(line)
+    intervals = in_order(path, sections) if hour else [alone(path, sections)]
+    return Case(hour, list(intervals), settings)
+
+
+def alone(path, sections):
+    """The one sheet and the one list; what is missing is empty."""
+    parts = {}
+    for section in sections:
+        if section.name in parts or section.begin.words[1:]:
+            raise Fault(f"one section '{section.name}' is expected").at(section.begin)
+        parts[section.name] = section.data(path)
+    return tuple(parts.get(name, b"") for name in SECTIONS)
+
+
+def in_order(path, sections):
+    """Each sheet of an hour with the list that stands next below it; where none does the list is empty."""
+    waiting = []
+    for section in sections:
+        data, times = section.data(path), section.times()
+        if section.name == "sheet":
+            waiting += [data] * times
+        else:
+            yield from ((sheet, data) for sheet in waiting)
+            waiting = []
+    yield from ((sheet, b"") for sheet in waiting)
 
 
 def case_files(paths):

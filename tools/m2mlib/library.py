@@ -7,6 +7,7 @@ from . import build
 from .trouble import Trouble
 
 ROOM = 288  # include/m2m.h: no listing is longer
+INTERVALS = 60  # include/m2m.h: no hour holds more
 
 
 class Figure(NamedTuple):
@@ -42,6 +43,7 @@ FIGURES = (
     money("nyiso", "NYISO"),
     money("pjm", "PJM"),
 )
+HOUR_FIGURES = (Figure("seconds", meaning="seconds", everyday="min"), *FIGURES[-3:])
 
 
 class Statement(ctypes.Structure):
@@ -69,6 +71,33 @@ class Sheet(ctypes.Structure):
     ]
 
 
+class Hour(ctypes.Structure):
+    """The amounts and seconds of its intervals, how many there are, their flowgate's name and Monitoring RTO."""
+
+    _fields_ = [
+        ("amounts", ctypes.c_int64 * INTERVALS),
+        ("seconds", ctypes.c_uint16 * INTERVALS),
+        ("count", ctypes.c_size_t),
+        ("name", ctypes.c_uint8 * 16),
+        ("monitoring_rto", ctypes.c_uint8),
+    ]
+
+
+class Changed(ctypes.Structure):
+    """0 and the hour with the interval, or a refusal's number and the hour as it was."""
+
+    _fields_ = [("refusal", ctypes.c_uint8), ("hour", Hour)]
+
+
+class Totals(ctypes.Structure):
+    """An hour's seconds, amount and payments."""
+
+    _fields_ = [
+        ("seconds", ctypes.c_uint32),
+        *((figure.name, ctypes.c_int64) for figure in HOUR_FIGURES[1:]),
+    ]
+
+
 class Library:
     """The library, built if need be."""
 
@@ -77,11 +106,16 @@ class Library:
         try:
             library = ctypes.CDLL(path)
             self.report, self.read = library.m2m_report, library.m2m_read
+            self.hour_open, self.hour_add = library.m2m_hour_open, library.m2m_hour_add
+            self.hour_totals = library.m2m_hour_totals
         except (OSError, AttributeError) as error:
             raise Trouble(f"{path}: {error}") from None
         part = [ctypes.c_char_p, ctypes.c_size_t]
         self.report.argtypes, self.report.restype = part * 3, Printed
         self.read.argtypes, self.read.restype = part, Sheet
+        self.hour_open.argtypes, self.hour_open.restype = [], Hour
+        self.hour_add.argtypes, self.hour_add.restype = [Hour, *part * 2], Changed
+        self.hour_totals.argtypes, self.hour_totals.restype = [Hour], Totals
 
     def settle(self, sheet, entitlements):
         """The statement of an interval and its listing; a refusal has its one line."""
@@ -95,3 +129,7 @@ class Library:
         """Where the reader refuses a sheet, or None."""
         answer = self.read(sheet, len(sheet))
         return answer.place if answer.refusal else None
+
+    def add(self, hour, sheet, entitlements):
+        """The hour with the interval, or a refusal's number and the hour as it was."""
+        return self.hour_add(hour, sheet, len(sheet), entitlements, len(entitlements))

@@ -23,15 +23,15 @@ class Listing:
     def begin(self):
         return b""
 
-    def head(self, result):
+    def head(self, name):
         self.done += 1
         if self.count == 1:
             return b""
         blank = "\n" if self.done > 1 else ""
-        return encoded(f"{blank}==> {result.name} <==\n")
+        return encoded(f"{blank}==> {name} <==\n")
 
     def row(self, result):
-        return self.head(result) + result.listing
+        return self.head(result.name) + result.listing
 
     def end(self):
         return b""
@@ -41,9 +41,8 @@ class Words(Listing):
     """For people: everyday units beside the exact figures, and refusals explained."""
 
     def row(self, result):
-        accepted = result.statement.refusal == 0
-        lines = accepted_words(result.statement) if accepted else list(refused_words(result))
-        return self.head(result) + encoded("\n".join(lines) + "\n")
+        lines = refused_words(result) if result.refusal else accepted_words(result.statement)
+        return self.head(result.name) + as_lines(lines)
 
 
 class Json(Listing):
@@ -54,8 +53,7 @@ class Json(Listing):
 
     def row(self, result):
         self.done += 1
-        comma = ",\n" if self.done > 1 else "\n"
-        return encoded(comma + json.dumps(columns(result)))
+        return json_row(columns(result), self.done)
 
     def end(self):
         return b"\n]\n"
@@ -65,14 +63,24 @@ class Csv(Listing):
     """A line of headings, then one line an interval."""
 
     def begin(self):
-        return csv_line([*IDENTITY, *map(heading, FIGURES)])
+        return csv_line([*ANSWER, *FLOWGATE, *map(heading, FIGURES)])
 
     def row(self, result):
         return csv_line(columns(result).values())
 
 
 FORMATS = {"--words": Words, "--json": Json, "--csv": Csv}
-IDENTITY = ("interval", "refusal", "reason", "place", "record", "flowgate", "flowgate_hex")
+ANSWER = ("interval", "refusal", "reason", "place", "record")
+FLOWGATE = ("flowgate", "flowgate_hex")
+
+
+def as_lines(lines):
+    return encoded("".join(line + "\n" for line in lines))
+
+
+def json_row(values, number):
+    """An object on a line of its own in an array."""
+    return encoded(("," if number > 1 else "") + "\n" + json.dumps(values))
 
 
 def csv_line(values):
@@ -85,45 +93,61 @@ def heading(figure):
     return "_".join([LABELS.get(figure.name, figure.name), *figure.unit.split()])
 
 
+def answer(result):
+    """An interval's name, and of a refusal its number, reason, place and record."""
+    record = record_at(result.sheet.data, result.place) if result.place is not None else None
+    reason = words_of(result.refusal).title if result.refusal else None
+    return dict(zip(ANSWER, (result.name, result.refusal, reason, result.place, record)))
+
+
+def flowgate(name):
+    """A flowgate's name as text and in hexadecimal digits; no name has neither."""
+    plain = name.rstrip(b"\0")
+    return dict(zip(FLOWGATE, (name_text(name), plain.hex()) if plain else (None, None)))
+
+
+def figures_of(values, figures):
+    """Figures by headings; where there are no values they are None."""
+    return {heading(figure): getattr(values, figure.name) if values else None for figure in figures}
+
+
 def columns(result):
     """One interval by headings; a refused one has no figures."""
-    statement, refused = result.statement, result.statement.refusal
-    name = bytes(statement.name)
-    record = record_at(result.sheet.data, result.place) if result.place is not None else None
-    row = dict(zip(IDENTITY, (
-        result.name, refused, words_of(refused).title if refused else None, result.place, record,
-        None if refused else name_text(name), None if refused else name.rstrip(b"\0").hex(),
-    )))
-    row.update((heading(f), None if refused else getattr(statement, f.name)) for f in FIGURES)
-    return row
+    statement = result.statement
+    values = None if result.refusal else statement
+    return {**answer(result), **flowgate(bytes(statement.name)), **figures_of(values, FIGURES)}
 
 
 def accepted_words(statement):
     """The listing's lines with their units: exact figure, everyday figure, meaning."""
-    name = bytes(statement.name)
-    lines = [f"flowgate     {name_text(name)}  (bytes {name.rstrip(bytes(1)).hex()})"]
-    for figure in FIGURES:
-        value = getattr(statement, figure.name)
-        label = LABELS.get(figure.name, figure.name)
-        if figure.name not in REMAINDERS:
-            exact, said = f"{value} {figure.unit}", meaning(figure, statement)
-            lines.append(f"{label:<12} {everyday(value, figure):>20}   {exact:<34} {said}")
-    return [line.rstrip() for line in lines]
+    return [name_line(statement)] + [
+        figure_line(figure, statement) for figure in FIGURES if figure.name not in REMAINDERS
+    ]
 
 
-def meaning(figure, statement):
+def name_line(holder):
+    name = bytes(holder.name)
+    return f"flowgate     {name_text(name)}  (bytes {name.rstrip(bytes(1)).hex()})"
+
+
+def figure_line(figure, holder):
+    value = getattr(holder, figure.name)
+    label, exact = LABELS.get(figure.name, figure.name), f"{value} {figure.unit}"
+    return f"{label:<12} {everyday(value, figure):>20}   {exact:<34} {meaning(figure, holder)}"
+
+
+def meaning(figure, holder):
     """What a figure is; of a payment, who pays."""
     if figure.name == "gtl":
-        first, second = (getattr(statement, name) for name in REMAINDERS)
+        first, second = (getattr(holder, name) for name in REMAINDERS)
         return f"{figure.meaning}, remainders {first} and {second}"
     if figure.name in LABELS:
-        value = getattr(statement, figure.name)
+        value = getattr(holder, figure.name)
         return f"{figure.meaning} {'receives' if value > 0 else 'pays' if value < 0 else 'pays nothing'}"
     return figure.meaning
 
 
 def refused_words(result):
-    refusal = result.statement.refusal
-    for label, words in refusal_words(refusal, result.sheet, result.place, result.entitlements):
+    for label, words in refusal_words(result.refusal, result.sheet, result.place, result.entitlements):
         start = f"{label + ':':<10}" if label else ""
         yield from textwrap.wrap(start + words, 100, subsequent_indent=" " * len(start)) or [start]

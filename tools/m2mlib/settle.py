@@ -23,6 +23,10 @@ class Result(NamedTuple):
     listing: bytes
     place: int  # of the offending record, or None
 
+    @property
+    def refusal(self):
+        return self.statement.refusal
+
 
 class Progress:
     """One line on standard error, only on a terminal and only where there are many."""
@@ -41,32 +45,48 @@ class Progress:
 
 
 def settle(call):
-    """Settles all intervals; 0 all accepted, 1 some refused, 2 some could not be settled."""
-    chosen = [FORMATS[option] for option in call.options if option in FORMATS]
-    if len(chosen) > 1:
-        raise Trouble("one of --words, --json and --csv is wanted, not several")
+    """Settles all intervals; the status."""
+    form = chosen(call, FORMATS, Listing)
     todo = intervals(call.arguments, call.options.get("--list"))
-    library, progress = Library(), Progress(len(todo))
-    form = (chosen or [Listing])[0](len(todo))
-    status = 0
-    call.output.write(form.begin())
+    library = Library()
+    return each(todo, lambda interval: settle_one(interval, library), form(len(todo)), call.output)
+
+
+def chosen(call, forms, plain):
+    """What the options ask to be printed."""
+    options = [option for option in call.options if option in forms]
+    if len(options) > 1:
+        *others, last = forms
+        raise Trouble(f"one of {', '.join(others)} and {last} is wanted, not several")
+    return forms[options[0]] if options else plain
+
+
+def each(todo, take, form, output):
+    """Takes all intervals and prints what comes of them; 0 all accepted, 1 some refused, 2 some could not be taken."""
+    progress, status = Progress(len(todo)), 0
+    output.write(form.begin())
     for done, interval in enumerate(todo, 1):
         try:
-            result = settle_one(interval, library)
-            call.output.write(form.row(result))
-            status = max(status, int(result.statement.refusal > 0))
+            result = take(interval)
+            output.write(form.row(result))
+            status = max(status, int(result.refusal > 0))
         except Trouble as trouble:
             warn(str(trouble))
             status = 2
         progress.tell(done)
-    call.output.write(form.end())
+    output.write(form.end())
     return status
 
 
-def settle_one(interval, library):
+def load_interval(interval):
+    """The sheet and the list of an interval."""
     if not interval.lists:
         warn(f"{interval.name}: no {' or '.join(LISTS)} in it; the list counts as empty")
-    sheet, entitlements = load_one(interval.sheets), load_list(interval.lists)
+    return load_one(interval.sheets), load_list(interval.lists)
+
+
+def settle_one(interval, library):
+    sheet, entitlements = load_interval(interval)
     statement, listing = library.settle(sheet.data, entitlements.data)
     place = library.place(sheet.data) if statement.refusal else None
     return Result(interval.name, sheet, entitlements, statement, listing, place)

@@ -8,6 +8,7 @@ from typing import Callable, NamedTuple
 from .cases import case_files, case_lines
 from .files import read_file, read_input
 from .forms import show
+from .hour import hour
 from .looks import check, show_file
 from .manual import manual
 from .records import LIST, SHEET
@@ -78,6 +79,7 @@ SEE = "'m2m --help' tells all"
 ANY = 1 << 62
 VERBS = {
     "settle": Verb(settle, 1, ANY, ("words", "json", "csv", "list=")),
+    "hour": Verb(hour, 1, ANY, ("words", "json", "list=")),
     "check": Verb(check, 1, ANY),
     "show": Verb(show_file, 1, 1),
     "text": Verb(text, 1, ANY),

@@ -18,7 +18,9 @@ def name_text(name):
 
 
 def everyday(value, figure):
-    """A figure in its everyday unit, exactly: the point moved, nothing rounded."""
+    """A figure in its everyday unit, exactly: the point moved, nothing rounded; seconds as minutes and seconds."""
+    if figure.everyday == "min":
+        return f"{value // 60} min {value % 60} s"
     whole, part = divmod(abs(value), 10**figure.digits)
     sign = "-" if value < 0 else ""
     return f"{sign}{whole}.{part:0{figure.digits}} {figure.everyday}"

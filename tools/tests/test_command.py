@@ -41,6 +41,7 @@ class Command(unittest.TestCase):
             ["text", "cases"], ["text", "pages"], ["show"], ["show", "a", "b"], ["check"],
             ["settle", "--list"], ["settle", "a.txt"], ["settle", "no", "such"], ["show", "no-such"],
             ["settle", "--words", "--csv", SAMPLE], ["show", SAMPLE], ["text", "cases", "no-such"],
+            ["hour"], ["hour", "--csv", SAMPLE], ["hour", "--words", "--json", SAMPLE], ["hour", "no-such"],
         ):
             outcome = run(*arguments, env={"PATH": os.environ["PATH"], "RT_JOBS": "1"})
             self.assertEqual(outcome.stdout, b"")

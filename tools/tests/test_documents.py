@@ -5,7 +5,7 @@ import unittest
 
 from common import content
 from m2mlib.forms import FORMS
-from m2mlib.library import FIGURES
+from m2mlib.library import FIGURES, HOUR_FIGURES, INTERVALS
 from m2mlib.manual import manual
 from m2mlib.records import BY_NUMBER, KINDS
 from m2mlib.refusals import refusals
@@ -60,7 +60,7 @@ class Documents(unittest.TestCase):
             self.assertIn(most, line)
 
     def test_every_refusal_has_its_words(self):
-        self.assertEqual(sorted(refusals()), list(range(1, 24)))
+        self.assertEqual(sorted(refusals()), list(range(1, 27)))
         for refusal in refusals().values():
             for words in (refusal.title, refusal.meaning, refusal.mend):
                 self.assertNotIn("|", words)
@@ -70,8 +70,11 @@ class Documents(unittest.TestCase):
 
     def test_figures_are_those_of_the_header(self):
         header = content("include/m2m.h").decode()
-        statement = re.search(r"struct m2m_statement \{(.*?)\}", header, re.S).group(1)
-        self.assertEqual(re.findall(r"int64_t (\w+);", statement), [figure.name for figure in FIGURES])
+        for struct, figures in (("statement", FIGURES), ("totals", HOUR_FIGURES)):
+            fields = re.search(r"struct m2m_%s \{(.*?)\}" % struct, header, re.S).group(1)
+            declared = re.findall(r"\bu?int\d+_t (\w+);", fields)
+            self.assertEqual([field for field in declared if field != "refusal"], [f.name for f in figures])
+        self.assertIn(f"#define M2M_HOUR_INTERVALS {INTERVALS}\n", header)
 
 
 if __name__ == "__main__":

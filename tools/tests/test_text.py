@@ -232,9 +232,26 @@ class Cases(unittest.TestCase):
             "# stray\nraw 01\nexpect refused 1\n",
             "# two sheets\nsheet\nraw 01\nsheet\nraw 02\nexpect refused 1\n",
             "# open\nsheet\nrepeat i 1 2\nentitlements\nend\nexpect refused 1\n",
+            "# a sheet twice, and no hour\nsheet 2\nraw 01\nexpect refused 1\n",
+            "# a list twice\nhour\nsheet\nraw 01\nentitlements 2\nexpect refused 1\n",
+            "# never\nhour\nsheet 0\nraw 01\nexpect refused 1\n",
+            "# two hours\nhour\nhour\nexpect seconds 0\n",
+            "# an hour behind a sheet\nsheet\nhour\nexpect seconds 0\n",
         ):
             with self.assertRaises(Trouble):
                 self.case(text)
+
+    def test_an_hour(self):
+        lines = self.case(
+            "# Shows it\nhour\nsheet 2\n  raw 01\nsheet\n  raw 02\nentitlements\n  raw 10\n"
+            "sheet\n  raw 03\nentitlements\nsheet\n  raw 04\nexpect refused 1\nexpect seconds 0\n"
+        )
+        pairs = [("01", " 10"), ("01", " 10"), ("02", " 10"), ("03", ""), ("04", "")]
+        expected = [line for pair in pairs for line in (f"sheet {pair[0]}", f"entitlements{pair[1]}")]
+        self.assertEqual(lines, ["hour", *expected, "expect refused 1", "expect seconds 0", "end"])
+
+    def test_an_empty_hour(self):
+        self.assertEqual(self.case("# Nothing\nhour\nexpect seconds 0\n"), ["hour", "expect seconds 0", "end"])
 
 
 if __name__ == "__main__":

@@ -16,7 +16,7 @@ import unittest
 sys.path.insert(0, os.path.dirname(os.path.dirname(os.path.abspath(__file__))))
 
 from common import LONGEST, ROOT, SAMPLE, content, run, to_bytes, write  # noqa: E402
-from m2mlib.cases import case_files, case_lines, sections  # noqa: E402
+from m2mlib.cases import case_files, case_of  # noqa: E402
 from m2mlib.faults import faults  # noqa: E402
 from m2mlib.library import FIGURES, Library  # noqa: E402
 from m2mlib.records import BY_NUMBER, LIST, SHEET, split  # noqa: E402
@@ -30,14 +30,23 @@ library = Library()
 
 
 def cases():
-    """Sheet, list and expectations of all case files."""
+    """Sheet, list and settings of all case files."""
     for path in case_files([os.path.join(ROOT, "tests/cases")]):
-        yield path, *case_of(path, list(case_lines(path))[1:-1])
+        yield path, *interval_of(case_of(path, content(path)))
 
 
-def case_of(path, lines):
-    parts = dict(line.partition(" ")[::2] for line in lines[:2])
-    return bytes.fromhex(parts["sheet"]), bytes.fromhex(parts["entitlements"]), lines[2:]
+def examples():
+    """Number, sheet, list and settings of the examples of REFUSALS, those of hours left out."""
+    for number, refusal in refusals().items():
+        for example in refusal.examples:
+            case = case_of("REFUSALS.md", example.encode())
+            if not case.hour:
+                yield number, *interval_of(case)
+
+
+def interval_of(case):
+    (interval,) = case.intervals
+    return *interval, case.settings
 
 
 class Answers(unittest.TestCase):
@@ -62,12 +71,9 @@ class Answers(unittest.TestCase):
             self.assert_met(*case)
 
     def test_the_examples_of_refusals(self):
-        for number, refusal in refusals().items():
-            for example in refusal.examples:
-                texts, settings = sections("REFUSALS.md", example.encode())
-                self.assertIn(f"expect refused {number}", settings)
-                data = [texts[name].data() for name in ("sheet", "entitlements")]
-                self.assert_met(f"example of {number}", *data, settings)
+        for number, sheet, entitlements, settings in examples():
+            self.assertIn(f"expect refused {number}", settings)
+            self.assert_met(f"example of {number}", sheet, entitlements, settings)
 
     def test_statement_and_listing_agree(self):
         for path, sheet, entitlements, _ in cases():
@@ -182,12 +188,11 @@ class Command(unittest.TestCase):
         self.assertTrue(any(line.startswith("mend:     rename the later record") for line in lines))
 
     def test_words_of_every_refusal(self):
-        for number, refusal in refusals().items():
-            texts, _ = sections("REFUSALS.md", refusal.examples[0].encode())
-            self.inside(f"{number:02}", sheet_bin=texts["sheet"].data(), entitle_bin=texts["entitlements"].data())
+        for number, sheet, entitlements, _ in examples():
+            self.inside(f"{number:02}", sheet_bin=sheet, entitle_bin=entitlements)
         told = run("settle", "--words", self.folder).stdout.decode()
-        for number, refusal in refusals().items():
-            self.assertTrue(number == 23 or f"refused {number}: {refusal.title}\n" in told, number)
+        for number in range(1, 23):
+            self.assertIn(f"refused {number}: {refusals()[number].title}\n", told)
 
     def test_names_that_are_no_text(self):
         for k, (name, shown) in enumerate((
