@@ -4,10 +4,10 @@ use native.Mathlib.Omega.{arith}
 use mathlib.Core.Path.{_≡_, refl, sym, ap, subst, _∙_}
 use mathlib.Core.Bool.{Bool, true, false, cond, not, _&&_, _||_, true≢false}
 use mathlib.Core.List.{List, [], _∷_, _++_, append-nil, map}
-use borrow.Author.Tests.{eqb-true, eqb-false, ltb-false, leb-false, eq-eqb}
-use lib.Dec.{eqb, ltb, leb}
+use borrow.Author.Tests.{eqb-true, eqb-false, eq-eqb}
+use lib.Dec.{eqb}
 use lib.IntN.{ℤ, pos}
-use lib.ListN.{length, replicate, set, length-append}
+use lib.ListN.{length, replicate, set, length-append, length-map}
 use lib.Seq.{set-append-seam, append-snoc}
 use Rattle.names.specs.Names.{sameList}
 use Rattle.names.proofs.SameNames.{same-true}
@@ -16,6 +16,7 @@ use Rattle.settlement.specs.Settled.{Inputs, interval}
 use Rattle.hours.specs.declared.Hour.{Hour}
 use Rattle.hour_cells.specs.Cells.{secondsTo, secondsOf}
 use Rattle.hour_cells.proofs.Cells.{held-all}
+use Rattle.hours.proofs.Room.{Admits, admits}
 use Rattle.hours.specs.Hour.{opened, isOther, hourRow, refusalOf, withInterval, added}
 use Rattle.grown_hours.specs.Grown.{grown, hourOf, takenBy, takenOf, secondsTogether}
 
@@ -63,10 +64,6 @@ pub record Fit (xs : List Inputs) : Type 0 where
   pub alike : Each (Alike (nameOf xs) (rtoOf xs)) xs
 
 -- ---- lists with one more at the end
-length-map : {A B : Type 0} (f : A → B) (xs : List A) → length (map f xs) ≡ length xs
-length-map f [] = refl
-length-map f (x ∷ xs) = ap suc (length-map f xs)
-
 map-snoc : {A B : Type 0} (f : A → B) (xs : List A) (a : A) → map f (xs ++ (a ∷ [])) ≡ map f xs ++ (f a ∷ [])
 map-snoc f [] a = refl
 map-snoc f (x ∷ xs) a = ap (λ l. f x ∷ l) (map-snoc f xs a)
@@ -109,21 +106,15 @@ laid-seconds xs l = ap (secondsTo (padded (map secondsIn xs) 0)) (held-all (leng
 -- ---- what is taken
 pub record Passes (h : Hour) (i : Interval) : Type 0 where
   pub own : i .statement .refusal ≡ 0
-  pub room : h .count < 60
-  pub time : secondsOf (h .seconds) (h .count) + i .seconds ≤ 3600
-  pub one : isOther h i ≡ false
+  pub admitted : Admits h i
 
 pub passes : (h : Hour) (i : Interval) → refusalOf h i ≡ 0 → Passes h i
-unfolding refusalOf hourRow
-passes h i e = by (eqb (i .statement .refusal) 0) (leb 60 (h .count)) (ltb 3600 (secondsOf (h .seconds) (h .count) + i .seconds)) (isOther h i) refl refl refl refl e
+unfolding refusalOf
+passes h i e = by (eqb (i .statement .refusal) 0) refl e
   where
-    by : (a b c d : Bool) → eqb (i .statement .refusal) 0 ≡ a → leb 60 (h .count) ≡ b → ltb 3600 (secondsOf (h .seconds) (h .count) + i .seconds) ≡ c → isOther h i ≡ d →
-        _≡_ {A = ℕ} (cond a (cond b 24 (cond c 25 (cond d 26 0))) (i .statement .refusal)) 0 → Passes h i
-    by true false false false p q r s z = record { own = eqb-true _ _ p; room = leb-false 60 (h .count) q; time = ltb-false 3600 (secondsOf (h .seconds) (h .count) + i .seconds) r; one = s }
-    by true false false true p q r s z = absurd (let k : _≡_ {A = ℕ} 26 0 = z in omega arith)
-    by true false true d p q r s z = absurd (let k : _≡_ {A = ℕ} 25 0 = z in omega arith)
-    by true true c d p q r s z = absurd (let k : _≡_ {A = ℕ} 24 0 = z in omega arith)
-    by false b c d p q r s z = absurd (eqb-false _ _ p z)
+    by : (a : Bool) → eqb (i .statement .refusal) 0 ≡ a → cond a (hourRow h i) (i .statement .refusal) ≡ 0 → Passes h i
+    by true p z = record { own = eqb-true _ _ p; admitted = admits h i z }
+    by false p z = absurd (eqb-false _ _ p z)
 
 -- of the flowgate and Monitoring RTO of those before it
 like : (xs : List Inputs) (x : Inputs) → isOther (laid xs) (interval x) ≡ false → (nameIn x ≡ nameOf (xs ++ (x ∷ []))) × (rtoIn x ≡ rtoOf (xs ++ (x ∷ [])))
@@ -146,12 +137,12 @@ hour-is a b d e f = λ i. record { amounts = a i; seconds = b i; count = d i; na
 laid-more : (xs : List Inputs) (x : Inputs) → Passes (laid xs) (interval x) → withInterval (laid xs) (interval x) ≡ laid (xs ++ (x ∷ []))
 unfolding withInterval
 laid-more xs x p =
-    hour-is (cells amountIn (pos 0)) (cells secondsIn 0) (sym (length-snoc xs x)) (like xs x (p .one) .0) (like xs x (p .one) .1)
+    hour-is (cells amountIn (pos 0)) (cells secondsIn 0) (sym (length-snoc xs x)) (like xs x (p .admitted .one) .0) (like xs x (p .admitted .one) .1)
   where
     cells : {A : Type 0} (f : Inputs → A) (z : A) → set (padded (map f xs) z) (length xs) (f x) ≡ padded (map f (xs ++ (x ∷ []))) z
     cells f z =
-        ap (λ (n : ℕ). set (padded (map f xs) z) n (f x)) (sym (length-map f xs))
-        ∙ padded-set (map f xs) z (f x) (let e = length-map f xs in omega (arith, p .room))
+        ap (λ (n : ℕ). set (padded (map f xs) z) n (f x)) (sym (length-map xs f))
+        ∙ padded-set (map f xs) z (f x) (let e = length-map xs f in omega (arith, p .admitted .room))
         ∙ ap (λ l. padded l z) (sym (map-snoc f xs x))
 
 first-kept : (xs : List Inputs) (x : Inputs) → Each (Alike (nameOf xs) (rtoOf xs)) xs → Each (Alike (nameOf (xs ++ (x ∷ []))) (rtoOf (xs ++ (x ∷ [])))) xs
@@ -161,9 +152,9 @@ first-kept (y ∷ xs) x e = e
 fit-more : (xs : List Inputs) (x : Inputs) → Fit xs → Passes (laid xs) (interval x) → Fit (xs ++ (x ∷ []))
 fit-more xs x f p =
     record {
-      few = let e = length-snoc xs x in omega (arith, p .room);
-      short = let e = seconds-snoc xs x in let g = laid-seconds xs (f .few) in omega (arith, p .time);
-      alike = let l = like xs x (p .one) in each-snoc _ xs x (first-kept xs x (f .alike)) (record { name-is = l .0; rto-is = l .1; accepted = p .own });
+      few = let e = length-snoc xs x in omega (arith, p .admitted .room);
+      short = let e = seconds-snoc xs x in let g = laid-seconds xs (f .few) in omega (arith, p .admitted .time);
+      alike = let l = like xs x (p .admitted .one) in each-snoc _ xs x (first-kept xs x (f .alike)) (record { name-is = l .0; rto-is = l .1; accepted = p .own });
     }
 
 -- ---- growing

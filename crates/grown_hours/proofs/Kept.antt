@@ -12,7 +12,7 @@ use Rattle.accuracy.specs.Fraction.{Near}
 use Rattle.settlement.specs.Settled.{Inputs}
 use Rattle.hours.specs.declared.Hour.{Hour}
 use Rattle.hours.specs.declared.Totals.{Totals}
-use Rattle.hours.specs.Totals.{amountIn, totalsOf}
+use Rattle.hours.specs.Totals.{hourAmount, totalsOf}
 use Rattle.grown_hours.specs.Grown.{hourOf, takenOf, exactTogether}
 use Rattle.grown_hours.specs.Promise.{Sums, Promise}
 use Rattle.grown_hours.proofs.Growth.{rtoOf, laid, laid-seconds, Fit, hour-laid, taken-fit}
@@ -28,9 +28,9 @@ adds : (h : Hour) → totalsOf h .nyiso +ℤ totalsOf h .pjm ≡ pos 0
 unfolding totalsOf
 adds h = by (eqb (h .«monitoring_rto») nyiso)
   where
-    by : (b : Bool) → cond b (amountIn h) (negℤ (amountIn h)) +ℤ cond b (negℤ (amountIn h)) (amountIn h) ≡ pos 0
-    by true = cancel (amountIn h)
-    by false = cancel-first (amountIn h)
+    by : (b : Bool) → cond b (hourAmount h) (negℤ (hourAmount h)) +ℤ cond b (negℤ (hourAmount h)) (hourAmount h) ≡ pos 0
+    by true = cancel (hourAmount h)
+    by false = cancel-first (hourAmount h)
 
 -- the other's payment is the negative, whichever monitors
 flipped : (b : Bool) (a : ℤ) → cond b (negℤ a) a ≡ negℤ (cond b a (negℤ a))
@@ -49,7 +49,7 @@ laid-sums xs f =
       seconds-most = omega (arith, f .short);
       amount = amount;
       nyiso = paid;
-      pjm = flipped b (amountIn (laid xs)) ∙ ap negℤ paid ∙ sym (pjm-sum _ _ xs (f .alike));
+      pjm = flipped b (hourAmount (laid xs)) ∙ ap negℤ paid ∙ sym (pjm-sum _ _ xs (f .alike));
       amount-near = rw amount (near-sum _ _ xs (f .alike));
     }
 

@@ -1,12 +1,13 @@
--- An hour that refuses nothing has room; its amount and the negative of it as machine numbers.
-use Prim.Native.Nat.{ℕ, _+_, _<_}
+-- What an hour that refuses nothing has; its amount and the negative of it as machine numbers.
+use Prim.Native.Nat.{ℕ, _+_, _<_, _≤_}
 use native.Mathlib.Omega.{arith}
-use mathlib.Core.Path.{_≡_, refl}
-use mathlib.Core.Bool.{Bool, true, false, cond}
+use mathlib.Core.Path.{_≡_}
+use mathlib.Core.Bool.{false}
 use mathlib.Core.List.{List}
-use borrow.Author.Tests.{leb-false}
+use borrow.Author.Tests.{ltb-false, leb-false}
 use lib.Dec.{ltb, leb}
 use lib.IntN.{ℤ, pos, negℤ, _-ℤ_, +ℤ-idl}
+use Rattle.rows.proofs.NotMet.{row-pass}
 use Rattle.integers.proofs.Absolute.{abs-neg}
 use Rattle.integers.proofs.Machine.{Op, op, rd, num-is}
 use Rattle.settlement.specs.declared.Interval.{Interval}
@@ -23,10 +24,16 @@ module _ (r : ℤ) (amounts : List ℤ) (count : ℕ) (e : r ≡ amountOf amount
   negated =
       op (rw itself (+ℤ-idl (negℤ (amountOf amounts count)))) (omega (arith, abs-neg (amountOf amounts count), amount-within amounts count)) (omega arith)
 
-pub row-room : (h : Hour) (i : Interval) → hourRow h i ≡ 0 → h .count < 60
+-- what rows 24 to 26 leave where none of them is met
+pub record Admits (h : Hour) (i : Interval) : Type 0 where
+  pub room : h .count < 60
+  pub time : secondsOf (h .seconds) (h .count) + i .seconds ≤ 3600
+  pub one : isOther h i ≡ false
+
+pub admits : (h : Hour) (i : Interval) → hourRow h i ≡ 0 → Admits h i
 unfolding hourRow
-row-room h i e = by (leb 60 (h .count)) refl e
-  where
-    by : (b : Bool) → leb 60 (h .count) ≡ b → _≡_ {A = ℕ} (cond b 24 (cond (ltb 3600 (secondsOf (h .seconds) (h .count) + i .seconds)) 25 (cond (isOther h i) 26 0))) 0 → h .count < 60
-    by true p q = absurd (let z : _≡_ {A = ℕ} 24 0 = q in omega arith)
-    by false p q = leb-false 60 (h .count) p
+admits h i e =
+    let a = row-pass 23 (leb 60 (h .count)) _ e in
+    let b = row-pass 24 (ltb 3600 (secondsOf (h .seconds) (h .count) + i .seconds)) _ (a .1) in
+    let c = row-pass 25 (isOther h i) 0 (b .1) in
+    record { room = leb-false _ _ (a .0); time = ltb-false _ _ (b .0); one = c .0 }

@@ -7,14 +7,14 @@ use Rattle.hour_cells.specs.Cells.{secondsOf, amountOf}
 use Rattle.hours.specs.declared.Hour.{Hour}
 use Rattle.hours.specs.declared.Totals.{Totals}
 
-abbrev pub amountIn : Hour → ℤ
-amountIn h = amountOf (h .amounts) (h .count)
+abbrev pub hourAmount : Hour → ℤ
+hourAmount h = amountOf (h .amounts) (h .count)
 
 -- the Monitoring RTO's hourly payment is the amount, the other's its negative
 unfoldable pub totalsOf : Hour → Totals
 totalsOf h = record {
   seconds = secondsOf (h .seconds) (h .count);
-  amount = amountIn h;
-  nyiso = cond (eqb (h .«monitoring_rto») nyiso) (amountIn h) (negℤ (amountIn h));
-  pjm = cond (eqb (h .«monitoring_rto») nyiso) (negℤ (amountIn h)) (amountIn h);
+  amount = hourAmount h;
+  nyiso = cond (eqb (h .«monitoring_rto») nyiso) (hourAmount h) (negℤ (hourAmount h));
+  pjm = cond (eqb (h .«monitoring_rto») nyiso) (negℤ (hourAmount h)) (hourAmount h);
 }

@@ -3,7 +3,7 @@ use mathlib.Core.Path.{sym, _∙_}
 use borrow.Author.Needs.{needs}
 use borrow.Author.Tests.{eq-eqb, ne-eqb}
 use Rattle.hours.specs.Hour.{refusalOf, added}
-use Rattle.hours.proofs.Room.{row-room}
+use Rattle.hours.proofs.Room.{admits}
 use Rattle.hours.proofs.Hour.take.Statement.{statement}
 use Rattle.hours.proofs.Hour.take.Tie as tie
 
@@ -21,7 +21,7 @@ returns-2 c =
     simp (eq-eqb _ _ (k .before .if1 .left), ← k .row-for .ensures, ne-eqb _ _ (c .if2 .taken))
 
 with-interval-requires : tie.Need-with-interval-requires
-with-interval-requires c κs = row-room _ _ (sym (c .before .row-for .ensures) ∙ c .if2 .left)
+with-interval-requires c κs = admits _ _ (sym (c .before .row-for .ensures) ∙ c .if2 .left) .room
 
 returns-3 : tie.Need-returns-3
 unfolding added refusalOf
