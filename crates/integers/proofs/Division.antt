@@ -22,7 +22,7 @@ abs-rem (pos a) (pos b) h = mod-lt a (omega zarith)
 abs-rem (negsuc a) (pos b) h = rw abs-neg (mod-lt (suc a) (omega zarith))
 
 -- a quotient by a positive number and a remainder fit where the dividend does
-pub mag-neg : (r a : ℕ) → r ≤ suc a → mag (negℤ (pos r)) ≤ a
+mag-neg : (r a : ℕ) → r ≤ suc a → mag (negℤ (pos r)) ≤ a
 mag-neg zero a h = omega arith
 mag-neg (suc r) a h = omega arith
 

@@ -1,3 +1,5 @@
+pub mod Nearest
+pub mod Halves
 pub mod Rounded
 pub mod Laws
 pub mod Step

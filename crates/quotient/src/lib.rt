@@ -3,8 +3,8 @@ ghost use mathlib.Core.Path.{_≡_};
 ghost use Prim.Native.Nat.{_<_};
 ghost use lib.IntN.{pos, natAbs};
 ghost use lib.Signed.{_<ℤ_};
-ghost use Rattle.quotient.specs.Rounded.{IsRounded, quotient, remainder};
-ghost use Rattle.quotient.specs.inner.Step.{goesAway, away, step};
+ghost use Rattle.quotient.specs.Rounded.{IsRounded, goesAway, quotient, remainder};
+ghost use Rattle.quotient.specs.inner.Step.{away, step};
 
 pub struct Quotient {
     pub quotient: i64,

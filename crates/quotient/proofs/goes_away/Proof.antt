@@ -1,6 +1,6 @@
 -- `goes_away` meets its contract.
 use borrow.Author.Needs.{needs}
-use Rattle.quotient.specs.inner.Step.{goesAway}
+use Rattle.quotient.specs.Rounded.{goesAway}
 use Rattle.quotient.proofs.goes_away.Statement.{statement}
 use Rattle.quotient.proofs.goes_away.Tie as tie
 

@@ -1,6 +1,6 @@
 -- `rounded_quotient` meets its contract, at every dividend and every divisor above zero.
 use mathlib.Core.Path.{_≡_, sym}
-use Prim.Native.Nat.{_*_, _<_, _≤_, _^_}
+use Prim.Native.Nat.{_*_, _<_, _^_}
 use native.Mathlib.Nat.{mul-le-mul-right}
 use native.Mathlib.Omega.{arith}
 use lib.IntN.{ℤ, pos, natAbs, _+ℤ_, _-ℤ_, _*ℤ_}

@@ -8,7 +8,8 @@ use mir.Facts.{toZ-ofZ}
 use mir.Syntax.{w64}
 use mir.Val.{SFits}
 use borrow.Author.Needs.{needs}
-use Rattle.quotient.specs.inner.Step.{goesAway, away, step}
+use Rattle.quotient.specs.Rounded.{goesAway}
+use Rattle.quotient.specs.inner.Step.{away, step}
 use Rattle.quotient.proofs.step_of.Statement.{statement}
 use Rattle.quotient.proofs.step_of.Tie as tie
 
