@@ -73,11 +73,11 @@ pub brink-near : Near (amount brink (pos 1)) (exactAmount brink (pos 1)) (amount
 unfolding settled half dearerPrice marketBound amountBound
 brink-near = record { above = record { lt = tt }; bound = record { lt = tt }; apart = record { le = tt } }
 
--- At 1 cent for 1 s the amount of 1,800,000 W is 1, and the exact one 1/2: near enough by the bound's half
+-- At 1 cent for 1 s the amount of 1,800,000 W is 0, and the exact one 1/2: near enough by the bound's half
 abbrev halved : Content
 halved = plain (headOf pjm 1 1 1) (zoneOf 100 0 ∷ []) (unitOf 1 100 ∷ []) [] (factorOf 0 1 1 (pos 1800) ∷ factorOf 0 2 1 (pos 0) ∷ [])
 
-pub halved-amounts : (amount halved (pos 0) ≡ pos 1) × (exactAmount halved (pos 0) .numerator *ℤ pos 2 ≡ exactAmount halved (pos 0) .denominator)
+pub halved-amounts : (amount halved (pos 0) ≡ pos 0) × (exactAmount halved (pos 0) .numerator *ℤ pos 2 ≡ exactAmount halved (pos 0) .denominator)
 unfolding settled
 halved-amounts = (refl, refl)
 

@@ -174,7 +174,7 @@ threeUnits =
 
 -- content; generation-to-load flow, first and second remainder
 abbrev flows : List (Content × ℤ × ℤ × ℤ)
-flows = (thirds, pos 7, pos 1, pos 0) ∷ (exporting, negsuc 9, negsuc 1, negsuc 1) ∷ (threeUnits, pos 20, pos 0, pos 0) ∷ []
+flows = (thirds, pos 7, pos 1, pos 0) ∷ (exporting, negsuc 9, pos 2, pos 2) ∷ (threeUnits, pos 20, pos 0, pos 0) ∷ []
 
 pub computed-flows : map (λ (r : Content × ℤ × ℤ × ℤ). (r .0, generationToLoad (r .0) 0, firstRemainder (r .0) 0, secondRemainder (r .0) 0)) flows ≡ flows
 unfolding printed
@@ -185,8 +185,10 @@ abbrev amounts : List (Head × ℤ × ℤ)
 amounts =
     (dear, pos 1, pos 100)
     ∷ (dear, negsuc 0, negsuc 24)
-    ∷ (headOf 2 300 6000 6000, pos 1, pos 1)
-    ∷ (headOf 2 300 6000 6000, negsuc 0, negsuc 0)
+    ∷ (headOf 2 300 6000 6000, pos 1, pos 0)
+    ∷ (headOf 2 300 6000 6000, negsuc 0, pos 0)
+    ∷ (headOf 2 300 6000 6000, pos 3, pos 2)
+    ∷ (headOf 2 300 6000 6000, negsuc 2, negsuc 1)
     ∷ []
 
 pub computed-amounts : map (λ (r : Head × ℤ × ℤ). (r .0, r .1, amountOf (r .0) (r .1))) amounts ≡ amounts

@@ -1,91 +1,125 @@
--- The tie rule, which goes away from zero at a half. What holds whichever way a half goes is `tie-away` and `tie-stays`.
-use mathlib.Core.Path.{_≡_, refl, sym, ap}
+-- The tie rule, which takes the even one at a half. What holds whichever way a half goes is `tie-away` and `tie-stays`.
+use mathlib.Core.Path.{_≡_, refl, sym, ap, _∙_}
 use mathlib.Core.Bool.{Bool, true, false, cond}
 use mathlib.Core.Logic.{_⊎_, inl, inr}
-use Prim.Native.Nat.{ℕ, suc, _+_, _*_, _-_, _/_, _%_, _<_, _≤_}
-use native.Mathlib.Nat.{div-add-mod', mod-lt, mul-le-mul-right, le-antisymm}
+use Prim.Native.Nat.{ℕ, zero, suc, _+_, _*_, _-_, _/_, _%_, _<_, _≤_}
+use native.Mathlib.Nat.{div-add-mod', mod-lt, mul-le-mul-right}
 use native.Mathlib.Decide.{decLe}
 use native.Mathlib.Omega.{arith}
-use borrow.Author.Tests.{leb-true, leb-false}
-use lib.IntN.{ℤ, pos, negsuc, natAbs, _-ℤ_, _*ℤ_}
+use borrow.Author.Tests.{ltb-true, ltb-false, eqb-true, eqb-false, eq-eqb, ne-eqb}
+use lib.Dec.{eqb, ltb}
+use lib.IntN.{ℤ, pos, negsuc, negℤ, natAbs, _+ℤ_, _-ℤ_, _*ℤ_}
 use lib.Signed.{_<ℤ_}
 use Rattle.integers.proofs.Linear.{zarith}
 use Rattle.integers.proofs.Tactic.{zi, zo}
-use Rattle.integers.proofs.Absolute.{abs-neg, abs-mul, abs-sub}
-use Rattle.quotient.specs.Rounded.{distance, IsRounded, goesAway, sizeOf, quotient}
-use Rattle.quotient.proofs.Nearest.{left-size, distance-neg, between, alone, above, near-of}
+use Rattle.integers.proofs.Absolute.{abs-mul}
+use Rattle.quotient.specs.Rounded.{distance, Even, IsRounded, goesAway, sizeOf, quotient}
+use Rattle.quotient.proofs.Nearest.{left-size, distance-neg, between, same-of, alone, above, near-of}
 
-pub tie-away : (size rest : ℕ) → goesAway size rest ≡ true → rest ≤ size
+-- where it is no half, the larger of the two sizes decides
+not-half : (m : ℕ) {size rest : ℕ} → (rest ≡ size → ⊥) → goesAway m size rest ≡ ltb rest size
 unfolding goesAway
-tie-away size rest e = leb-true rest size e
+not-half m {size} {rest} f = rw (ne-eqb rest size f)
 
-pub tie-stays : (size rest : ℕ) → goesAway size rest ≡ false → size ≤ rest
-unfolding goesAway
-tie-stays size rest e = let l : size < rest = leb-false rest size e in omega arith
+pub tie-away : (m size rest : ℕ) → goesAway m size rest ≡ true → rest ≤ size
+tie-away m size rest e = go (decLe rest size)
+  where
+    go : Dec (rest ≤ size) → rest ≤ size
+    go (yes l) = l
+    go (no l) = absurd (l (omega (arith, ltb-true rest size (sym (not-half m (λ f. l (omega arith))) ∙ e))))
+
+pub tie-stays : (m size rest : ℕ) → goesAway m size rest ≡ false → size ≤ rest
+tie-stays m size rest e = go (decLe size rest)
+  where
+    go : Dec (size ≤ rest) → size ≤ rest
+    go (yes l) = l
+    go (no l) = ltb-false rest size (sym (not-half m (λ f. l (omega arith))) ∙ e)
 
 -- what it takes is at most half of the divisor away
 pub half-size : (a b : ℕ) → 0 < b → 2 * natAbs (pos a -ℤ pos (sizeOf a b * b)) ≤ b
 unfolding sizeOf
-half-size a b h = go (goesAway (a % b) (b - a % b)) refl
+half-size a b h = go (goesAway (a / b) (a % b) (b - a % b)) refl
   where
-    go : (w : Bool) → goesAway (a % b) (b - a % b) ≡ w → 2 * natAbs (pos a -ℤ pos (cond w (a / b + 1) (a / b) * b)) ≤ b
-    go true e = rw (left-size a b h true) (omega (arith, mod-lt a h, tie-away (a % b) (b - a % b) e))
-    go false e = rw (left-size a b h false) (omega (arith, mod-lt a h, tie-stays (a % b) (b - a % b) e))
+    go : (w : Bool) → goesAway (a / b) (a % b) (b - a % b) ≡ w → 2 * natAbs (pos a -ℤ pos (cond w (a / b + 1) (a / b) * b)) ≤ b
+    go true e = rw (left-size a b h true) (omega (arith, mod-lt a h, tie-away (a / b) (a % b) (b - a % b) e))
+    go false e = rw (left-size a b h false) (omega (arith, mod-lt a h, tie-stays (a / b) (a % b) (b - a % b) e))
 
--- nearer than half, or not nearer to zero than the dividend
-far-size : (a b : ℕ) → 0 < b → (2 * natAbs (pos a -ℤ pos (sizeOf a b * b)) < b) ⊎ (natAbs (pos a -ℤ pos (sizeOf a b * b)) + a ≡ sizeOf a b * b)
+-- at a half an odd number goes on to the next, and an even one stays
+even-away : (m : ℕ) {size rest : ℕ} → rest ≡ size → goesAway m size rest ≡ true → Even (pos (m + 1))
+unfolding goesAway
+even-away m f e =
+    let odd : m % 2 ≡ 1 = eqb-true _ _ (rw (eq-eqb _ _ f) at e) in
+    record { half = pos (m / 2 + 1); twice = ap pos (omega (arith, div-add-mod' m 2)) }
+
+even-stays : (m : ℕ) {size rest : ℕ} → rest ≡ size → goesAway m size rest ≡ false → Even (pos m)
+unfolding goesAway
+even-stays m f e =
+    let not-odd : (m % 2 ≡ 1 → ⊥) = eqb-false _ _ (rw (eq-eqb _ _ f) at e) in
+    let less : m % 2 < 2 = mod-lt m (omega arith) in
+    record { half = pos (m / 2); twice = ap pos (omega (arith, div-add-mod' m 2)) }
+
+even-neg : (q : ℤ) → Even q → Even (negℤ q)
+even-neg q e = record { half = negℤ (e .half); twice = turned q (e .half) (e .twice) }
+  where
+    turned : (q h : ℤ) → q ≡ h +ℤ h → negℤ q ≡ negℤ h +ℤ negℤ h
+    turned q h = simp zi (simp zo (omega zarith))
+
+-- nearer than half, or even
+even-size : (a b : ℕ) → 0 < b → (2 * natAbs (pos a -ℤ pos (sizeOf a b * b)) < b) ⊎ Even (pos (sizeOf a b))
 unfolding sizeOf
-far-size a b h = go (goesAway (a % b) (b - a % b)) refl
+even-size a b h = go (eqb (b - a % b) (a % b)) refl (goesAway (a / b) (a % b) (b - a % b)) refl
   where
-    go : (w : Bool) → goesAway (a % b) (b - a % b) ≡ w →
-        (2 * natAbs (pos a -ℤ pos (cond w (a / b + 1) (a / b) * b)) < b) ⊎ (natAbs (pos a -ℤ pos (cond w (a / b + 1) (a / b) * b)) + a ≡ cond w (a / b + 1) (a / b) * b)
-    go true e = inr (rw (left-size a b h true) (omega (arith, div-add-mod' a b, mod-lt a h)))
-    go false e = inl (rw (left-size a b h false) (omega (arith, mod-lt a h, below)))
-      where
-        below : a % b < b - a % b
-        below = leb-false (b - a % b) (a % b) (unfold goesAway in e)
+    go : (v : Bool) → eqb (b - a % b) (a % b) ≡ v → (w : Bool) → goesAway (a / b) (a % b) (b - a % b) ≡ w →
+        (2 * natAbs (pos a -ℤ pos (cond w (a / b + 1) (a / b) * b)) < b) ⊎ Even (pos (cond w (a / b + 1) (a / b)))
+    go true f true e = inr (even-away (a / b) (eqb-true (b - a % b) (a % b) f) e)
+    go true f false e = inr (even-stays (a / b) (eqb-true (b - a % b) (a % b) f) e)
+    go false f true e = inl (rw (left-size a b h true) (omega (arith, eqb-false (b - a % b) (a % b) f, mod-lt a h, tie-away (a / b) (a % b) (b - a % b) e)))
+    go false f false e = inl (rw (left-size a b h false) (omega (arith, eqb-false (b - a % b) (a % b) f, mod-lt a h, tie-stays (a / b) (a % b) (b - a % b) e)))
 
-far-quotient : (n d : ℤ) → pos 0 <ℤ d → (2 * distance n d (quotient n d) < natAbs d) ⊎ (distance n d (quotient n d) + natAbs n ≡ natAbs (quotient n d) * natAbs d)
+pub quotient-even : (n d : ℤ) → pos 0 <ℤ d → (2 * distance n d (quotient n d) < natAbs d) ⊎ Even (quotient n d)
 unfolding quotient
-far-quotient n (negsuc b) h = absurd (h .lt)
-far-quotient (pos a) (pos b) h = far-size a b (omega zarith)
-far-quotient (negsuc a) (pos b) h =
-    rw (distance-neg (pos (suc a)) (pos b) (pos (sizeOf (suc a) b)), abs-neg (pos (sizeOf (suc a) b))) (far-size (suc a) b (omega zarith))
-
--- so that no other that is equally near is further from zero
-pub quotient-halves : (n d k : ℤ) → pos 0 <ℤ d → distance n d k ≡ distance n d (quotient n d) → natAbs k ≤ natAbs (quotient n d)
-quotient-halves n d k h e = go (far-quotient n d h) (decLe (natAbs k) (natAbs (quotient n d)))
+quotient-even n (negsuc b) h = absurd (h .lt)
+quotient-even (pos a) (pos b) h = even-size a b (omega zarith)
+quotient-even (negsuc a) (pos b) h = go (even-size (suc a) b (omega zarith))
   where
-    zero-times : (k d : ℤ) → k *ℤ d ≡ n -ℤ (n -ℤ k *ℤ d)
-    zero-times k d = simp zi (simp zo (omega zarith))
+    go : (2 * natAbs (pos (suc a) -ℤ pos (sizeOf (suc a) b * b)) < b) ⊎ Even (pos (sizeOf (suc a) b)) →
+        (2 * distance (negsuc a) (pos b) (negℤ (pos (sizeOf (suc a) b))) < b) ⊎ Even (negℤ (pos (sizeOf (suc a) b)))
+    go (inl l) = inl (rw (distance-neg (pos (suc a)) (pos b) (pos (sizeOf (suc a) b))) l)
+    go (inr e) = inr (even-neg _ e)
 
-    size : natAbs k * natAbs d ≤ natAbs n + distance n d k
-    size = rw (← abs-mul k d, ap natAbs (zero-times k d)) (abs-sub n (n -ℤ k *ℤ d))
+-- so that it is the even one of two that are equally near
+pub quotient-halves : (n d k : ℤ) → pos 0 <ℤ d → distance n d k ≡ distance n d (quotient n d) → (k ≡ quotient n d) ⊎ Even (quotient n d)
+quotient-halves n d k h e = go (quotient-even n d h)
+  where
+    go : (2 * distance n d (quotient n d) < natAbs d) ⊎ Even (quotient n d) → (k ≡ quotient n d) ⊎ Even (quotient n d)
+    go (inl l) = inl (alone n d (quotient n d) k l e)
+    go (inr v) = inr v
 
-    go : (2 * distance n d (quotient n d) < natAbs d) ⊎ (distance n d (quotient n d) + natAbs n ≡ natAbs (quotient n d) * natAbs d) →
-        Dec (natAbs k ≤ natAbs (quotient n d)) → natAbs k ≤ natAbs (quotient n d)
-    go x (yes l) = l
-    go (inl l) (no f) = rw (alone n d (quotient n d) k l e) (omega arith)
-    go (inr l) (no f) =
+-- no two even numbers are nearest: they are at least 2 × d apart
+apart-twice : (i j : ℤ) → natAbs ((i +ℤ i) -ℤ (j +ℤ j)) ≡ 2 * natAbs (i -ℤ j)
+apart-twice i j = ap natAbs (twice i j) ∙ abs-mul (pos 2) (i -ℤ j)
+  where
+    twice : (i j : ℤ) → (i +ℤ i) -ℤ (j +ℤ j) ≡ pos 2 *ℤ (i -ℤ j)
+    twice i j = simp zi (simp zo (omega zarith))
+
+even-one : (n d q p : ℤ) → 0 < natAbs d → Even q → Even p → 2 * distance n d q ≤ natAbs d → 2 * distance n d p ≤ natAbs d → q ≡ p
+even-one n d q p h e f l g = same-of q p (go (natAbs (e .half -ℤ f .half)) (rw (e .twice, f .twice) (apart-twice (e .half) (f .half))))
+  where
+    go : (t : ℕ) → natAbs (q -ℤ p) ≡ 2 * t → natAbs (q -ℤ p) ≤ 0
+    go zero x = omega arith
+    go (suc t) x =
         absurd (
-        let g : (natAbs (quotient n d) + 1) * natAbs d ≤ natAbs k * natAbs d = mul-le-mul-right (natAbs d) (omega arith) in
-        omega (arith, size, above d h))
+        let m : 2 * natAbs d ≤ 2 * suc t * natAbs d = mul-le-mul-right (natAbs d) (omega arith) in
+        let b : 2 * suc t * natAbs d ≤ distance n d p + distance n d q = rw x at (between n d q p) in
+        omega arith)
 
--- two that are equally near and equally far from zero are one
 pub halves-one : (n d q p : ℤ) → pos 0 <ℤ d → IsRounded n d q → IsRounded n d p → distance n d q ≡ distance n d p → q ≡ p
-halves-one n d q p h r s e = go q p (le-antisymm (s .halves q e) (r .halves p (sym e))) refl refl
+halves-one n d q p h r s e = go (r .halves p (sym e)) (s .halves q e)
   where
     half : (q : ℤ) → IsRounded n d q → 2 * distance n d q ≤ natAbs d
     half q r = near-of n d q h (r .nearest)
 
-    close : (t : ℕ) → natAbs (q -ℤ p) ≡ suc (suc t) → ⊥
-    close t x =
-        let m : 2 * natAbs d ≤ suc (suc t) * natAbs d = mul-le-mul-right (natAbs d) (omega arith) in
-        let b : suc (suc t) * natAbs d ≤ distance n d p + distance n d q = rw x at (between n d q p) in
-        omega (arith, above d h, half q r, half p s)
-
-    go : (x y : ℤ) → natAbs x ≡ natAbs y → q ≡ x → p ≡ y → x ≡ y
-    go (pos i) (pos j) f u v = ap pos f
-    go (negsuc i) (negsuc j) f u v = let g : i ≡ j = omega arith in ap negsuc g
-    go (pos i) (negsuc j) f u v = absurd (close (j + j) (rw (u, v, f) (omega arith)))
-    go (negsuc i) (pos j) f u v = absurd (close (i + i) (rw (u, v, ← f) (omega arith)))
+    go : (p ≡ q) ⊎ Even q → (q ≡ p) ⊎ Even p → q ≡ p
+    go (inl x) y = sym x
+    go (inr x) (inl y) = y
+    go (inr x) (inr y) = even-one n d q p (above d h) x y (half q r) (half p s)

@@ -1,4 +1,4 @@
-// The rounded quotient (document 01, 'Units').
+// The rounded quotient (document 01, 'Units'; document 02, request 2).
 ghost use mathlib.Core.Path.{_≡_};
 ghost use Prim.Native.Nat.{_<_};
 ghost use lib.IntN.{pos, natAbs};
@@ -11,11 +11,14 @@ pub struct Quotient {
     pub remainder: i64,
 }
 
-// The tie rule: halves go away from zero.
-fn goes_away(size: u64, rest: u64) -> bool
-    ensures { λ r. ⌜ r ≡ goesAway size rest ⌝ }
+// Whether the quotient m toward zero goes one further: size is what it leaves, rest what that lacks of the divisor. Halves go to even.
+fn goes_away(m: u64, size: u64, rest: u64) -> bool
+    ensures { λ r. ⌜ r ≡ goesAway m size rest ⌝ }
 {
-    rest <= size
+    if rest == size {
+        return m % 2 == 1;
+    }
+    rest < size
 }
 
 fn away_of(r: i64) -> i64
@@ -24,14 +27,14 @@ fn away_of(r: i64) -> i64
     if r < 0 { -1 } else { 1 }
 }
 
-// The step from the quotient toward zero to the nearest. Sizes are compared with what they lack of d, since twice a size may not fit.
-fn step_of(r: i64, d: i64) -> i64
+// The step from the quotient q toward zero to the nearest. Sizes are compared with what they lack of d, since twice a size may not fit.
+fn step_of(q: i64, r: i64, d: i64) -> i64
     requires { ⌜ (pos 0 <ℤ d) × (natAbs r < natAbs d) ⌝ }
-    ensures { λ k. ⌜ k ≡ step r d ⌝ }
+    ensures { λ k. ⌜ k ≡ step q r d ⌝ }
 {
     let size = integers::magnitude(r);
     let rest = integers::magnitude(d) - size;
-    if goes_away(size, rest) {
+    if goes_away(integers::magnitude(q), size, rest) {
         return away_of(r);
     }
     0
@@ -44,7 +47,7 @@ pub fn rounded_quotient(n: i64, d: i64) -> Quotient
 {
     let q = n / d;
     let r = n % d;
-    let k = step_of(r, d);
+    let k = step_of(q, r, d);
     Quotient {
         quotient: q + k,
         remainder: r - k * d,

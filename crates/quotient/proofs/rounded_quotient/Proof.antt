@@ -28,13 +28,13 @@ remainder-fits r d = simp zi (simp zo (omega zarith))
 -- what each operation gives fits, and is the definition's
 module _ (n d : ℤ) (fn : SFits w64 n) (fd : SFits w64 d) (h : pos 0 <ℤ d) where
   abbrev k : ℤ
-  k = step (remZ n d) d
+  k = step (quotZ n d) (remZ n d) d
 
   sum-fits : SFits w64 (quotZ n d +ℤ k)
   sum-fits = rw (step-quotient n d h) (quotient-fits n d h fn)
 
   product-fits : SFits w64 (k *ℤ d)
-  product-fits = abs-fits (k *ℤ d) (omega (arith, abs-mul k d, mul-le-mul-right (natAbs d) (step-small (remZ n d) d), size))
+  product-fits = abs-fits (k *ℤ d) (omega (arith, abs-mul k d, mul-le-mul-right (natAbs d) (step-small (quotZ n d) (remZ n d) d), size))
     where
       size : natAbs d < 2 ^ 63
       size = go d h fd
@@ -62,8 +62,8 @@ f-r c = fit-rem (c .args .d) (c .fits .n)
 step-of-requires : tie.Need-step-of-requires
 step-of-requires c κs = simp (toZ-ofZ, c .fits .n, c .fits .d, f-r c) (c .pre, abs-rem (c .args .n) (c .args .d) (c .pre))
 
-k-is : (c : tie.After-step-of) → c .step-of .result ≡ step (remZ (c .before .args .n) (c .before .args .d)) (c .before .args .d)
-k-is c = simp (toZ-ofZ, c .before .fits .n, c .before .fits .d, f-r (c .before)) at (c .step-of .ensures)
+k-is : (c : tie.After-step-of) → c .step-of .result ≡ step (quotZ (c .before .args .n) (c .before .args .d)) (remZ (c .before .args .n) (c .before .args .d)) (c .before .args .d)
+k-is c = simp (toZ-ofZ, c .before .fits .n, c .before .fits .d, f-q (c .before), f-r (c .before)) at (c .step-of .ensures)
 
 k-fits : (c : tie.After-step-of) → SFits w64 (c .step-of .result)
 k-fits c = search needs

@@ -9,6 +9,6 @@ unfoldable pub away : ℤ → ℤ
 away (pos n) = pos 1
 away (negsuc n) = negsuc 0
 
--- what is added to the quotient toward zero, which leaves the remainder r
-unfoldable pub step : ℤ → ℤ → ℤ
-step r d = cond (goesAway (natAbs r) (natAbs d - natAbs r)) (away r) (pos 0)
+-- what is added to the quotient q toward zero, which leaves the remainder r
+unfoldable pub step : ℤ → ℤ → ℤ → ℤ
+step q r d = cond (goesAway (natAbs q) (natAbs r) (natAbs d - natAbs r)) (away r) (pos 0)
