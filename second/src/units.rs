@@ -1,5 +1,6 @@
 //! Numbers with their units, so that none can be mistaken for another.
 
+use std::cmp::Ordering;
 use std::fmt;
 use std::iter::Sum;
 use std::ops::{Add, AddAssign, Mul, Neg, Sub, SubAssign};
@@ -101,20 +102,24 @@ quantity!(
 /// Watts in a tenth of a MW.
 const WATTS_PER_POWER: i64 = 100_000;
 /// Ten-thousandths in one.
-const WHOLE_FACTOR: i64 = 10_000;
+pub const WHOLE_FACTOR: i64 = 10_000;
 /// Watts × cents per MWh × seconds in a thousandth of a cent.
 pub const AMOUNT_DIVISOR: i64 = 3_600_000;
 
-/// The whole number nearest to numerator / divisor, halves away from zero, and
-/// what it leaves of the numerator. The divisor is above zero.
+/// The whole number nearest to numerator / divisor, the even one of two that are
+/// equally near, and what it leaves of the numerator. The divisor is above zero.
 pub fn rounded_quotient(numerator: i64, divisor: i64) -> (i64, i64) {
-    let (quotient, remainder) = (numerator / divisor, numerator % divisor);
-    // Half of the divisor is reached without doubling the remainder.
-    if remainder.abs() < divisor - remainder.abs() {
-        (quotient, remainder)
+    let (below, rest) = (numerator.div_euclid(divisor), numerator.rem_euclid(divisor));
+    // A rest is held against what it lacks of the divisor: doubled it might not fit.
+    let up = match rest.cmp(&(divisor - rest)) {
+        Ordering::Less => false,
+        Ordering::Equal => below % 2 != 0,
+        Ordering::Greater => true,
+    };
+    if up {
+        (below + 1, rest - divisor)
     } else {
-        let away = remainder.signum();
-        (quotient + away, remainder - away * divisor)
+        (below, rest)
     }
 }
 

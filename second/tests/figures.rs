@@ -70,13 +70,28 @@ fn a_short_buffer_is_refused_unchanged() {
 }
 
 #[test]
-fn halves_are_rounded_away_from_zero() {
-    assert_eq!(rounded_quotient(5, 2), (3, -1));
-    assert_eq!(rounded_quotient(-5, 2), (-3, 1));
+fn halves_are_rounded_to_even() {
+    assert_eq!(rounded_quotient(5, 2), (2, 1));
+    assert_eq!(rounded_quotient(-5, 2), (-2, -1));
     assert_eq!(rounded_quotient(-1, 3), (0, -1));
+    assert_eq!(rounded_quotient(7, 2), (4, -1));
+    assert_eq!(rounded_quotient(-7, 2), (-4, 1));
+    assert_eq!(rounded_quotient(3, 6), (0, 3));
+    assert_eq!(rounded_quotient(-3, 6), (0, -3));
     assert_eq!(rounded_quotient(0, 1), (0, 0));
-    assert_eq!(rounded_quotient(i64::MAX, 1), (i64::MAX, 0));
     assert_eq!(rounded_quotient(-2, 3), (-1, 1));
+}
+
+#[test]
+fn quotients_at_the_ends_do_not_overflow() {
+    let half = i64::MAX / 2;
+    assert_eq!(rounded_quotient(i64::MAX, 1), (i64::MAX, 0));
+    assert_eq!(rounded_quotient(i64::MIN, 1), (i64::MIN, 0));
+    assert_eq!(rounded_quotient(i64::MAX, 2), (half + 1, -1));
+    assert_eq!(rounded_quotient(i64::MIN + 1, 2), (-half - 1, 1));
+    assert_eq!(rounded_quotient(half, i64::MAX - 1), (0, half));
+    assert_eq!(rounded_quotient(-half, i64::MAX - 1), (0, -half));
+    assert_eq!(rounded_quotient(i64::MIN, i64::MAX), (-1, -1));
 }
 
 #[test]
@@ -104,7 +119,7 @@ fn flow_of_minus_ten_is_exact_with_remainders() {
         points: vec![(1, 0, 0, 1, 0)],
     };
     let statement = settled(&small, 0).unwrap();
-    assert_eq!(statement.flow.generation_to_load, gtl(-10, -2, -2));
+    assert_eq!(statement.flow.generation_to_load, gtl(-10, 2, 2));
     let bytes = small.bytes();
     let sheet = read(&bytes).unwrap();
     assert_eq!(
@@ -117,8 +132,10 @@ fn flow_of_minus_ten_is_exact_with_remainders() {
 fn amounts_are_rounded_once() {
     assert_eq!(amount(1, 400_000, 900), 100);
     assert_eq!(amount(-1, 100_000, 900), -25);
-    assert_eq!(amount(1, 6000, 300), 1);
-    assert_eq!(amount(-1, 6000, 300), -1);
+    assert_eq!(amount(1, 6000, 300), 0);
+    assert_eq!(amount(-1, 6000, 300), 0);
+    assert_eq!(amount(3, 6000, 300), 2);
+    assert_eq!(amount(-3, 6000, 300), -2);
     assert_eq!(amount(20_000_000_000, 400_000, 900), 2_000_000_000_000);
 }
 

@@ -10,8 +10,8 @@ use second::layout::{
 use second::names::NameField;
 use second::payment::LARGEST_FLOW;
 use second::reader::read;
-use second::sheet::{Class, FLOWGATE, Place, Rto, Sheet};
-use second::units::{AMOUNT_DIVISOR, Power};
+use second::sheet::{Class, FLOWGATE, Place, Rto, Sheet, Subject};
+use second::units::{AMOUNT_DIVISOR, Power, WHOLE_FACTOR, Watts};
 use second::{Refusal, Statement, draft, listing};
 
 use crate::crafted::share_a_bucket;
@@ -19,12 +19,23 @@ use crate::questions::settle::Input;
 use crate::questions::settle::check::{Answer, entries, name_of, records};
 use crate::questions::settle::directed::LONGEST_REACHED;
 
-const ACCEPTED: [&str; 31] = [
-    "first quotient a tie",
-    "second quotient a tie",
-    "what common PARs carry a tie",
-    "what non-common PARs carry a tie",
-    "amount a tie",
+/// The rounded quotients of a statement.
+const QUOTIENTS: [&str; 5] = [
+    "first quotient",
+    "second quotient",
+    "what common PARs carry",
+    "what non-common PARs carry",
+    "amount",
+];
+
+const HALVES: [&str; 4] = [
+    "a half above zero goes down to even",
+    "a half above zero goes up to even",
+    "a half below zero goes down to even",
+    "a half below zero goes up to even",
+];
+
+const ACCEPTED: [&str; 26] = [
     "difference zero",
     "difference of one watt",
     "market flow on the upper limit",
@@ -53,6 +64,8 @@ const ACCEPTED: [&str; 31] = [
     "an entitlement of +-10,000 MW",
 ];
 
+const OF_ACCEPTED: usize = QUOTIENTS.len() * HALVES.len() + ACCEPTED.len();
+
 const REFUSED: [&str; 14] = [
     "row 7 by the last of 256 units in one bucket",
     "row 8 by a unit in zone 32 of 31",
@@ -72,8 +85,11 @@ const REFUSED: [&str; 14] = [
 
 /// The landmarks, in the order in which they are counted.
 pub fn names() -> Vec<String> {
-    let all = ACCEPTED.iter().chain(&REFUSED);
-    all.map(|name| name.to_string()).collect()
+    let halved = QUOTIENTS
+        .iter()
+        .flat_map(|quotient| HALVES.map(|half| format!("{quotient}: {half}")));
+    let others = ACCEPTED.iter().chain(&REFUSED);
+    halved.chain(others.map(|name| name.to_string())).collect()
 }
 
 /// Which of the landmarks an input shows.
@@ -84,12 +100,21 @@ pub fn shown(input: &Input, answer: &Answer) -> Vec<usize> {
     };
     match answer {
         Ok(statement) => shown(0, &accepted(input, statement)),
-        Err(refusal) => shown(ACCEPTED.len(), &refused(input, *refusal)),
+        Err(refusal) => shown(OF_ACCEPTED, &refused(input, *refusal)),
     }
 }
 
-fn half(remainder: i64, divisor: i64) -> bool {
-    2 * remainder.abs() == divisor
+/// By the whole number below: a half goes up where that is odd.
+fn halved(dividend: i64, divisor: i64) -> [bool; HALVES.len()] {
+    let below = dividend.div_euclid(divisor);
+    let half = dividend.rem_euclid(divisor) * 2 == divisor;
+    let (above_zero, up) = (below >= 0, below % 2 != 0);
+    [
+        half && above_zero && !up,
+        half && above_zero && up,
+        half && !above_zero && !up,
+        half && !above_zero && up,
+    ]
 }
 
 /// The names of the list's entries.
@@ -104,29 +129,48 @@ fn full_bucket<'a>(names: impl Iterator<Item = &'a NameField> + Clone, count: us
 fn accepted(input: &Input, statement: &Statement) -> Vec<bool> {
     let sheet = &read(&input.sheet).expect("an accepted sheet is read");
     let balance = &balance(sheet).expect("an accepted sheet is balanced");
-    let mut shown = figures(sheet, balance, statement).to_vec();
+    let mut shown = halves(sheet, balance, statement);
+    shown.extend(figures(statement));
     shown.extend(powers(sheet, balance));
     shown.extend(accuracy(sheet, statement));
     shown.extend(pars(sheet, balance));
     shown.extend(sizes(input, sheet, statement));
-    assert_eq!(shown.len(), ACCEPTED.len());
+    assert_eq!(shown.len(), OF_ACCEPTED);
     shown
 }
 
-/// Ties, differences and limits.
-fn figures(sheet: &Sheet, balance: &Balance, statement: &Statement) -> [bool; 10] {
+/// The halves of each quotient.
+fn halves(sheet: &Sheet, balance: &Balance, statement: &Statement) -> Vec<bool> {
     let gtl = statement.flow.generation_to_load;
+    let factors = sheet.factors(FLOWGATE, Subject::Zone);
+    let by_loads = factors
+        .zip(balance.zone_loads)
+        .map(|(factor, load)| load * factor);
+    let first = by_loads.sum::<Watts>().0 * balance.outputs.0;
+    let generation = balance.net_generation.0;
+    let second = gtl.flow.0 * generation + gtl.second_remainder.0;
+    // A redirect that does not count is not rounded.
+    let noncommon = match sheet.head.monitoring {
+        Rto::Nyiso => 0,
+        Rto::Pjm => carried(sheet, balance, Class::NonCommon).0,
+    };
+    let difference = statement.flow.market.0 - statement.entitlement.0;
+    let product = difference * statement.payment.price.0 * sheet.head.seconds.0;
+    let quotients: [[bool; HALVES.len()]; QUOTIENTS.len()] = [
+        halved(first, balance.net_load.0),
+        halved(second, generation),
+        halved(carried(sheet, balance, Class::Common).0, WHOLE_FACTOR),
+        halved(noncommon, WHOLE_FACTOR),
+        halved(product, AMOUNT_DIVISOR),
+    ];
+    quotients.concat()
+}
+
+/// Differences and limits.
+fn figures(statement: &Statement) -> [bool; 5] {
     let market = statement.flow.market.0;
     let difference = market - statement.entitlement.0;
-    let product = difference * statement.payment.price.0 * sheet.head.seconds.0;
-    let [common, noncommon] = [Class::Common, Class::NonCommon]
-        .map(|class| half(carried(sheet, balance, class).0 % 10_000, 10_000));
     [
-        half(gtl.first_remainder.0, balance.net_load.0),
-        half(gtl.second_remainder.0, balance.net_generation.0),
-        common,
-        noncommon && sheet.head.monitoring == Rto::Pjm,
-        half(product % AMOUNT_DIVISOR, AMOUNT_DIVISOR),
         difference == 0,
         difference.abs() == 1,
         market == LARGEST_FLOW.0,
