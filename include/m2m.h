@@ -29,7 +29,8 @@ extern "C" {
 
 /*
  * The statement. Flows and entitlement are in watts, the price in cents per MWh, amount and payments in thousandths of
- * a cent. A refused statement has its number and zeros everywhere else.
+ * a cent. Rounded quotients go to the nearest whole number, halves to even (document 02, request 2). A refused statement
+ * has its number and zeros everywhere else.
  */
 typedef struct m2m_statement {
     uint8_t refusal;
