@@ -5,6 +5,7 @@
 pub mod balance;
 pub mod bigint;
 pub mod draft;
+pub mod due;
 pub mod entitlement;
 pub mod exact;
 pub mod flow;
@@ -16,6 +17,7 @@ pub mod names;
 pub mod payment;
 pub mod reader;
 pub mod refusal;
+pub mod rows;
 pub mod settle;
 pub mod sheet;
 pub mod units;

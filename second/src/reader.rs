@@ -1,17 +1,15 @@
 //! The reader of interval sheets: rows 1 to 13.
 
-use std::ops::RangeInclusive;
-
+use crate::due::Due;
 use crate::layout::{
     FACTORS, Fields, Kind, LOADS, MOST_PARS, MOST_POINTS, MOST_UNITS, MOST_ZONES, PAR_FLOWS,
     PRICES, SCHEDULES, SECONDS,
 };
 use crate::names::{Name, NameField, NamesSeen};
 use crate::refusal::Refusal;
-use crate::sheet::{
-    Class, FACTOR_RECORD, Head, Par, Place, Point, Rto, Sheet, Subject, Unit, Zone, ZoneNumber,
-};
-use crate::units::{Power, Price, Seconds};
+use crate::rows::{class, name, new_name, power, room, rto, within, zone_number};
+use crate::sheet::{FACTOR_RECORD, Head, Par, Place, Point, Sheet, Unit, Zone, ZoneNumber};
+use crate::units::{Price, Seconds};
 
 /// A refused sheet.
 #[derive(Clone, Copy, Debug, PartialEq, Eq)]
@@ -35,49 +33,6 @@ pub fn read(bytes: &[u8]) -> Result<Sheet<'_>, Refused> {
         reader.record().map_err(at(reader.place))?;
     }
     reader.end().map_err(at(bytes.len()))
-}
-
-/// The factors due, in their order: each is target, subject and index as they
-/// stand in a factor's record.
-struct Due {
-    counts: [usize; 4],
-    target: usize,
-    subject: usize,
-    index: usize,
-}
-
-impl Due {
-    fn by(sheet: &Sheet) -> Self {
-        Due {
-            counts: sheet.counts(),
-            target: 0,
-            subject: Subject::Unit as usize,
-            index: 0,
-        }
-    }
-}
-
-impl Iterator for Due {
-    type Item = [u8; 4];
-
-    fn next(&mut self) -> Option<[u8; 4]> {
-        let [.., pars] = self.counts;
-        self.index += 1;
-        while self.index > self.counts[self.subject - 1] {
-            self.index = 1;
-            self.subject += 1;
-            // PARs have factors on the flowgate only.
-            if self.subject > if self.target == 0 { 4 } else { 3 } {
-                self.subject = 1;
-                self.target += 1;
-            }
-            if self.target > pars {
-                return None;
-            }
-        }
-        let [high, low] = (self.index as u16).to_be_bytes();
-        Some([self.target as u8, self.subject as u8, high, low])
-    }
 }
 
 struct Reader<'a> {
@@ -193,7 +148,7 @@ impl<'a> Reader<'a> {
     }
 
     fn factor(&mut self, mut fields: Fields) -> Result<(), Refusal> {
-        let due = self.due.get_or_insert_with(|| Due::by(&self.sheet));
+        let due = self.due.get_or_insert_with(|| Due::by(self.sheet.counts()));
         if due.next().is_none_or(|due| due != fields.bytes()) {
             return Err(Refusal::FactorNotDue);
         }
@@ -209,18 +164,11 @@ impl<'a> Reader<'a> {
 
     /// Rows 6 and 7.
     fn new_name(&mut self, field: NameField) -> Result<Name, Refusal> {
-        let name = name(field)?;
-        match self.names.note(name) {
-            true => Ok(name),
-            false => Err(Refusal::RepeatedName),
-        }
+        new_name(&mut self.names, field)
     }
 
     fn zone_number(&self, number: u8) -> Result<ZoneNumber, Refusal> {
-        if number == 0 || usize::from(number) > self.sheet.zones.len() {
-            return Err(Refusal::UnlistedCode);
-        }
-        Ok(ZoneNumber(number))
+        zone_number(number, self.sheet.zones.len())
     }
 
     /// Rows 12 and 13.
@@ -228,7 +176,7 @@ impl<'a> Reader<'a> {
         if self.sheet.zones.is_empty() || self.sheet.units.is_empty() {
             return Err(Refusal::NothingToSettle);
         }
-        let mut due = self.due.unwrap_or_else(|| Due::by(&self.sheet));
+        let mut due = self.due.unwrap_or_else(|| Due::by(self.sheet.counts()));
         match due.next() {
             Some(_) => Err(Refusal::FactorsStillDue),
             None => Ok(self.sheet),
@@ -244,43 +192,9 @@ fn body_of(kind: Kind, bytes: &[u8]) -> Result<&[u8], Refusal> {
 fn head(mut fields: Fields) -> Result<Head, Refusal> {
     Ok(Head {
         name: name(fields.bytes())?,
-        monitoring: match fields.byte() {
-            1 => Rto::Nyiso,
-            2 => Rto::Pjm,
-            _ => return Err(Refusal::UnlistedCode),
-        },
+        monitoring: rto(fields.byte())?,
         seconds: Seconds(within(SECONDS, fields.unsigned_2())?),
         monitoring_price: Price(within(PRICES, fields.unsigned_4())?),
         non_monitoring_price: Price(within(PRICES, fields.unsigned_4())?),
     })
-}
-
-fn room(count: usize, most: usize) -> Result<(), Refusal> {
-    match count < most {
-        true => Ok(()),
-        false => Err(Refusal::Surplus),
-    }
-}
-
-fn name(field: NameField) -> Result<Name, Refusal> {
-    Name::of(field).ok_or(Refusal::IllFormedName)
-}
-
-fn class(code: u8) -> Result<Class, Refusal> {
-    match code {
-        1 => Ok(Class::Common),
-        2 => Ok(Class::NonCommon),
-        _ => Err(Refusal::UnlistedCode),
-    }
-}
-
-fn within(range: RangeInclusive<i64>, value: i64) -> Result<i64, Refusal> {
-    match range.contains(&value) {
-        true => Ok(value),
-        false => Err(Refusal::OutOfRange),
-    }
-}
-
-fn power(value: i64, range: RangeInclusive<i64>) -> Result<Power, Refusal> {
-    within(range, value).map(Power)
 }

@@ -1,0 +1,63 @@
+//! What rows 5 to 9 ask of a count, a name, a code or a number.
+
+use std::ops::RangeInclusive;
+
+use crate::names::{Name, NameField, NamesSeen};
+use crate::refusal::Refusal;
+use crate::sheet::{Class, Rto, ZoneNumber};
+use crate::units::Power;
+
+pub fn room(count: usize, most: usize) -> Result<(), Refusal> {
+    match count < most {
+        true => Ok(()),
+        false => Err(Refusal::Surplus),
+    }
+}
+
+pub fn name(field: NameField) -> Result<Name, Refusal> {
+    Name::of(field).ok_or(Refusal::IllFormedName)
+}
+
+/// Rows 6 and 7.
+pub fn new_name(names: &mut NamesSeen, field: NameField) -> Result<Name, Refusal> {
+    let name = name(field)?;
+    match names.note(name) {
+        true => Ok(name),
+        false => Err(Refusal::RepeatedName),
+    }
+}
+
+pub fn rto(code: u8) -> Result<Rto, Refusal> {
+    match code {
+        1 => Ok(Rto::Nyiso),
+        2 => Ok(Rto::Pjm),
+        _ => Err(Refusal::UnlistedCode),
+    }
+}
+
+pub fn class(code: u8) -> Result<Class, Refusal> {
+    match code {
+        1 => Ok(Class::Common),
+        2 => Ok(Class::NonCommon),
+        _ => Err(Refusal::UnlistedCode),
+    }
+}
+
+/// The number of one of so many zones.
+pub fn zone_number(number: u8, zones: usize) -> Result<ZoneNumber, Refusal> {
+    if number == 0 || usize::from(number) > zones {
+        return Err(Refusal::UnlistedCode);
+    }
+    Ok(ZoneNumber(number))
+}
+
+pub fn within(range: RangeInclusive<i64>, value: i64) -> Result<i64, Refusal> {
+    match range.contains(&value) {
+        true => Ok(value),
+        false => Err(Refusal::OutOfRange),
+    }
+}
+
+pub fn power(value: i64, range: RangeInclusive<i64>) -> Result<Power, Refusal> {
+    within(range, value).map(Power)
+}
