@@ -13,10 +13,10 @@ use Rattle.fields.specs.inner.Word.{be64}
 abbrev pub Bytes : List ℕ → Type 0
 Bytes s = (i : ℕ) → getD s i 0 < 256
 
-be16-small : (s : List ℕ) → Bytes s → (at : ℕ) → be16 s at < 65536
+pub be16-small : (s : List ℕ) → Bytes s → (at : ℕ) → be16 s at < 65536
 be16-small s b at = omega (arith, b at, b (at + 1))
 
-be32-small : (s : List ℕ) → Bytes s → (at : ℕ) → be32 s at < 4294967296
+pub be32-small : (s : List ℕ) → Bytes s → (at : ℕ) → be32 s at < 4294967296
 be32-small s b at = omega (arith, be16-small s b at, be16-small s b (at + 2))
 
 -- an index past n, counted from n

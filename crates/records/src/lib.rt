@@ -20,6 +20,7 @@ pub const POINT: u8 = 3;
 pub const PAR: u8 = 4;
 
 // Kind 1. Prices in cents per MWh.
+#[repr(C)]
 pub struct Head {
     pub name: [u8; 16],
     pub monitoring_rto: u8,
@@ -29,6 +30,7 @@ pub struct Head {
 }
 
 // Kind 2. Powers here and below are tenths of a MW.
+#[repr(C)]
 pub struct Zone {
     pub name: [u8; 16],
     pub load: u32,
@@ -36,6 +38,7 @@ pub struct Zone {
 }
 
 // Kind 3. zone: the zone's number, from 1.
+#[repr(C)]
 pub struct Unit {
     pub name: [u8; 16],
     pub zone: u8,
@@ -58,6 +61,7 @@ pub struct Point {
 }
 
 // Kind 5.
+#[repr(C)]
 pub struct Par {
     pub name: [u8; 16],
     pub class: u8,
@@ -66,6 +70,7 @@ pub struct Par {
 }
 
 // Kind 6. target: 0 the flowgate, k the k-th PAR. Factors are ten-thousandths.
+#[repr(C)]
 pub struct Factor {
     pub target: u8,
     pub subject: u8,

@@ -17,7 +17,7 @@ use Rattle.record_rows.specs.Rows.{firstRow, recordRow, lastRow}
 use Rattle.layout.specs.declared.Layout.{Layout}
 use Rattle.layout.specs.Layout.{layoutOf}
 use Rattle.sheet.specs.declared.Outcome.the-variants.{Accepted, Refused}
-use Rattle.sheet.specs.Sheet.{Reading, holds, fails, unless, recordsFrom, reading, outcome, readSheet, contentIn, contentOf}
+use Rattle.sheet.specs.Sheet.{Reading, holds, fails, unless, recordsFrom, reading, outcome, readSheet, numberIn, contentIn, contentOf}
 use Rattle.sheet.specs.inner.Passed.{Passed, none, more, rowAt, Accepts, Refuses}
 use Rattle.sheet.proofs.Passing.{passed-within}
 
@@ -109,3 +109,10 @@ by-refusal number at (fails n p) o = let n-is : n ≡ number = cc in let p-is : 
 pub refused-fails : (s : List ℕ) (number at : ℕ) → readSheet s ≡ Refused number at → reading s ≡ fails number at
 unfolding readSheet
 refused-fails s number at e = by-refusal number at (reading s) e
+
+-- and of its number
+pub accepted-number : (s : List ℕ) (l : Layout) → readSheet s ≡ Accepted l → numberIn (reading s) ≡ 0
+accepted-number s l e = ap numberIn (accepted-holds s l e)
+
+pub refused-number : (s : List ℕ) (number at : ℕ) → readSheet s ≡ Refused number at → numberIn (reading s) ≡ number
+refused-number s number at e = ap numberIn (refused-fails s number at e)

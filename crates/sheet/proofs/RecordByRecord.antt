@@ -16,7 +16,7 @@ use Rattle.sheet.specs.declared.Outcome.the-variants.{Refused}
 use Rattle.sheet.specs.Sheet.{holds, fails, unless, recordsFrom, reading, readSheet}
 use Rattle.sheet.specs.inner.Passed.{Passed, none, more}
 
-from-skip : (at skip last : ℕ) (c : Content) (r : List ℕ) → skip ≤ length r → recordsFrom at skip last c r ≡ recordsFrom (at + skip) 0 last c (drop skip r)
+pub from-skip : (at skip last : ℕ) (c : Content) (r : List ℕ) → skip ≤ length r → recordsFrom at skip last c r ≡ recordsFrom (at + skip) 0 last c (drop skip r)
 unfolding recordsFrom
 from-skip at zero last c r h = let e : at + 0 ≡ at = omega arith in rw e
 from-skip at (suc skip) last c [] h = absurd (omega arith)

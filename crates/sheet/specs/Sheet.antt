@@ -34,6 +34,11 @@ abbrev pub contentIn : Reading → Content
 contentIn (holds c) = c
 contentIn (fails number at) = noContent
 
+-- the refusal's number; 0 of a sheet that is accepted
+abbrev pub numberIn : Reading → ℕ
+numberIn (holds c) = 0
+numberIn (fails number at) = number
+
 -- what an accepted sheet holds; nothing of a refused one
 unfoldable pub contentOf : List ℕ → Content
 contentOf s = contentIn (reading s)
