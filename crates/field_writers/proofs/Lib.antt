@@ -1,0 +1,4 @@
+pub mod FieldLaws
+pub mod Storing
+pub mod Bits
+pub mod Records

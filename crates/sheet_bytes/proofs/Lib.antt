@@ -1,0 +1,11 @@
+pub mod FieldPlaces
+pub mod RecordBodies
+pub mod Steps
+pub mod Told
+pub mod Marked
+pub mod Numbers
+pub mod Growing
+pub mod PassedBytes
+pub mod RoundTrips
+pub mod Examples
+pub mod Sections

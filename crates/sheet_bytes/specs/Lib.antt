@@ -1,0 +1,3 @@
+pub mod SheetBytes
+pub mod ContentRow
+pub mod inner
