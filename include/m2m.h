@@ -1,6 +1,6 @@
 /*
- * The market-to-market settlement of one flowgate and one interval (document 01), and of whole hours (document 02,
- * request 1), for C and C++.
+ * The market-to-market settlement of one flowgate and one interval (document 01), of whole hours, and the writer of
+ * sheets (document 02, requests 1 and 3), for C and C++.
  *
  *   rt staticlib exports                                        writes target/staticlib/libexports.a
  *   cc -Iinclude my.c target/staticlib/libexports.a -o my
@@ -114,6 +114,95 @@ typedef struct m2m_totals {
     int64_t pjm;    /* PJM's payment, the other's negative */
 } m2m_totals;
 
+/* A sheet has at most so many records of a kind, and so many bytes. */
+#define M2M_MOST_ZONES 32
+#define M2M_MOST_UNITS 256
+#define M2M_MOST_POINTS 32
+#define M2M_MOST_PARS 8
+#define M2M_MOST_FACTORS 2888
+#define M2M_SHEET_ROOM 27748
+
+/*
+ * The records of a sheet, with the fields and units of docs/FORMAT.md. Any value may stand in a field; the writer refuses
+ * what no sheet may have. An underscore ends a name that C++ keeps for itself.
+ */
+typedef struct m2m_head {
+    uint8_t name[16]; /* the flowgate's, filled with zero bytes on the right */
+    uint8_t monitoring_rto;
+    uint16_t seconds;
+    uint32_t monitoring_price;
+    uint32_t nonmonitoring_price;
+} m2m_head;
+
+typedef struct m2m_zone {
+    uint8_t name[16];
+    uint32_t load;
+    uint32_t losses;
+} m2m_zone;
+
+typedef struct m2m_unit {
+    uint8_t name[16];
+    uint8_t zone; /* the number of its zone, from 1 */
+    uint32_t output;
+} m2m_unit;
+
+typedef struct m2m_point {
+    uint8_t name[16];
+    uint8_t sort; /* its type */
+    uint8_t line; /* 0: a proxy, whose zone is not looked at. Anything else: a scheduled line that ends in the zone */
+    uint8_t zone;
+    uint32_t import_;
+    uint32_t export_;
+} m2m_point;
+
+typedef struct m2m_par {
+    uint8_t name[16];
+    uint8_t class_;
+    int32_t actual;
+    int32_t target;
+} m2m_par;
+
+typedef struct m2m_factor {
+    uint8_t target;
+    uint8_t subject;
+    uint16_t index;
+    int16_t factor;
+} m2m_factor;
+
+/*
+ * A draft of a sheet: its head, and its other records by kind, in order. Each array is one longer than a sheet may have,
+ * so that a surplus record can be told. A draft gives the first records of each array, as many as the count says, and all
+ * of them where the count is above the array's length. It is some 25 KB long, and is passed and returned by value.
+ */
+typedef struct m2m_draft {
+    m2m_head head;
+    size_t zone_count;
+    m2m_zone zones[M2M_MOST_ZONES + 1];
+    size_t unit_count;
+    m2m_unit units[M2M_MOST_UNITS + 1];
+    size_t point_count;
+    m2m_point points[M2M_MOST_POINTS + 1];
+    size_t par_count;
+    m2m_par pars[M2M_MOST_PARS + 1];
+    size_t factor_count;
+    m2m_factor factors[M2M_MOST_FACTORS + 1];
+} m2m_draft;
+
+/*
+ * What the reader says of a sheet, rows 1 to 13. Accepted: 0 and its records; cells behind a count are zero, line is 1 of
+ * a scheduled line, and zone 0 of a proxy. Refused: the number, and a draft of zeros.
+ */
+typedef struct m2m_drafted {
+    uint8_t refusal;
+    m2m_draft draft;
+} m2m_drafted;
+
+/* What came of writing: 0 and the sheet's length, or the refusal's number and 0. */
+typedef struct m2m_written {
+    uint8_t refusal;
+    size_t length;
+} m2m_written;
+
 /* Settles a sheet against a list. */
 m2m_statement m2m_settle(const uint8_t *sheet, size_t sheet_length, const uint8_t *list, size_t list_length);
 
@@ -143,6 +232,18 @@ m2m_changed m2m_hour_add(m2m_hour hour, const uint8_t *sheet, size_t sheet_lengt
 
 /* Adds an hour up. */
 m2m_totals m2m_hour_totals(m2m_hour hour);
+
+/* Reads a sheet as a draft, to be altered and written again. */
+m2m_drafted m2m_read_draft(const uint8_t *sheet, size_t sheet_length);
+
+/*
+ * Writes a draft's sheet at the front of the output buffer. Bytes behind the sheet stay as before; on a refusal all do.
+ * The refusal is the first that the reader would meet, rows 5 to 13: a surplus record is 5 where it stands, a surplus
+ * factor 10. A scheduled line into zone 0 is 8. Then 27: the buffer is shorter than the sheet. One of M2M_SHEET_ROOM
+ * bytes never is. What is written is read again as the same records, and the draft of an accepted sheet is written byte
+ * for byte as the sheet was. m2m_report settles what is written.
+ */
+m2m_written m2m_write_draft(m2m_draft draft, uint8_t *out, size_t out_length);
 
 #ifdef __cplusplus
 }

@@ -1,6 +1,6 @@
 /* every_case: settles the cases that standard input holds, a sheet and a list in hexadecimal digits to a line ('-' for no
  * bytes), each in a block of memory of just its length, so that valgrind sees any byte read or written beside them. Each is
- * also added to an hour; a line 'hour' begins another. */
+ * also read as a draft and written again, and added to an hour; a line 'hour' begins another. */
 #include "m2m.h"
 
 #include <stdio.h>
@@ -34,6 +34,19 @@ static void report(block sheet, block list, size_t room) {
     free(out);
 }
 
+/* Writes the sheet again into a block of so many bytes, and then into one that is a byte shorter. */
+static void rewrite(block sheet, size_t room) {
+    m2m_drafted d = m2m_read_draft(sheet.bytes, sheet.length);
+    uint8_t *out = malloc(room);
+    m2m_written w = m2m_write_draft(d.draft, out, room);
+    printf("%d %d %zu\n", d.refusal, w.refusal, w.length);
+    if (w.refusal == 0 && memcmp(out, sheet.bytes, w.length) != 0)
+        exit(3);
+    if (w.length > 0)
+        rewrite(sheet, w.length - 1);
+    free(out);
+}
+
 static m2m_hour add(m2m_hour hour, block sheet, block list) {
     m2m_changed c = m2m_hour_add(hour, sheet.bytes, sheet.length, list.bytes, list.length);
     m2m_totals t = m2m_hour_totals(c.hour);
@@ -60,6 +73,7 @@ int main(void) {
         p = m2m_report(sheet.bytes, sheet.length, list.bytes, list.length, out, sizeof out);
         printf("%d %d %d\n", s.refusal, r.refusal, e.refusal);
         report(sheet, list, p.length);
+        rewrite(sheet, sheet.length);
         hour = add(hour, sheet, list);
         free(sheet.bytes);
         free(list.bytes);

@@ -1,12 +1,10 @@
 #!/usr/bin/env python3
 """run.py: the C interface of the archive target/staticlib/libexports.a.
 
-A C program links it through include/m2m.h and checks sheet S. Then the declarations of the header, of the comparison in
+Two C programs link it through include/m2m.h and check sheet S. Then the declarations of the header, of the comparison in
 Rust and of the front end in Python are held against what the archive leaves in memory: where each field stands, how long
 it is, and how long the whole is. Planted wrong declarations must be found.
 """
-import ctypes
-import glob
 import os
 import random
 import re
@@ -15,8 +13,11 @@ import subprocess
 import sys
 import tempfile
 
+import declared
+import drafts
+from declared import ROOT, compiled, said
+
 HERE = os.path.dirname(os.path.abspath(__file__))
-ROOT = os.path.dirname(os.path.dirname(HERE))
 ARCHIVE = os.path.join(ROOT, "target/staticlib/libexports.a")
 HEADER = os.path.join(ROOT, "include/m2m.h")
 FUNCTIONS = (
@@ -27,7 +28,11 @@ FUNCTIONS = (
     "m2m_hour_open",
     "m2m_hour_add",
     "m2m_hour_totals",
+    "m2m_read_draft",
+    "m2m_write_draft",
 )
+# Answers of 16 bytes, which come in two registers.
+IN_REGISTERS = ("m2m_entitlement", "m2m_write_draft")
 # The fields of each function's answer, as the crates name them.
 STATEMENT = (
     "refusal name gtl first_remainder second_remainder parallel shadow common noncommon market entitlement price amount"
@@ -41,21 +46,15 @@ FIELDS = {
     "m2m_hour_open": [],  # all zeros: it stands as in the answer of m2m_hour_add
     "m2m_hour_add": "refusal amounts seconds count name monitoring_rto".split(),
     "m2m_hour_totals": "seconds amount nyiso pjm".split(),
+    "m2m_read_draft": drafts.FIELDS,
+    "m2m_write_draft": ["refusal", "length"],
 }
+# So many sheets tell each byte of a draft from all others.
+DRAFTS = 40
 
 
 class Wrong(Exception):
     pass
-
-
-def said(*command, **how):
-    return subprocess.run(command, check=True, capture_output=True, text=True, **how).stdout
-
-
-def compiled(folder, name, *words):
-    program = os.path.join(folder, name)
-    subprocess.run(["cc", "-std=c11", "-O1", "-Wall", "-Wextra", "-Werror", "-o", program, *words], check=True)
-    return program
 
 
 # Sheets whose figures are all different.
@@ -152,7 +151,8 @@ class Seen:
         values = values_of(listing)
         for line in lines.splitlines() if values else ():
             function, low, high = line.split()
-            self.take(function, bytes.fromhex(low), bytes.fromhex(high), values[function])
+            if function in values:
+                self.take(function, bytes.fromhex(low), bytes.fromhex(high), values[function])
         return values is not None
 
     def take(self, function, low, high, values):
@@ -161,8 +161,7 @@ class Seen:
         written[function] = same if written[function] is None else written[function] & same
         for field, value in values.items():
             wanted = encoded(value)
-            found = {at for at in same if low[at : at + len(wanted)] == wanted}
-            places[field] = places.get(field, found) & found
+            places[field] = {at for at in places.get(field, same) if low.startswith(wanted, at) and at in same}
             self.sizes[function][field] = len(wanted)
 
 
@@ -174,6 +173,10 @@ def seen(raw, folder):
     while accepted < 12:
         sheet, entitlements, value = interval(chance, 1 + accepted % 2)
         accepted += memory.meet(sheet, entitlements, lambda listing: expected(sheet, listing, value))
+    for _ in range(DRAFTS):
+        head, records = drafts.drawn(chance)
+        drafted = drafts.sheet(head, records)
+        memory.meet(drafted, b"", lambda listing: drafts.expected(head, records, len(drafted)))
 
     # Refusals tell the number and the place apart from zeros.
     def refused(number, place):
@@ -182,7 +185,7 @@ def seen(raw, folder):
             zeros[function].update(refusal=bytes([number]), name=bytes(16))
         zeros["m2m_read"].update(refusal=bytes([number]), place=place)
         zeros["m2m_entitlement"].update(refusal=b"\x0e")
-        return {**zeros, **hour_of([], sheet, number)}
+        return {**zeros, **hour_of([], sheet, number), **drafts.refused(number)}
 
     sheet = bytearray(sheet)
     sheet[28 + 25] = 9
@@ -191,146 +194,37 @@ def seen(raw, folder):
     return laid(memory.places, memory.sizes), memory.written
 
 
+def in_order(found, before, behind):
+    """Those places of a field that lie behind the one before it and before the next: padding may keep bytes of a record."""
+    low = before[-1][1] + before[-1][2] if before else 0
+    high = min((at for at in behind or () if at > low), default=low)
+    return {at for at in found if low <= at < high}
+
+
 def laid(places, sizes):
     """The fields of each function's answer, each with its place and size."""
     layout = {}
     for function in FUNCTIONS:
         layout[function] = []
-        for field in FIELDS[function]:
+        for field, behind in zip(FIELDS[function], [*FIELDS[function][1:], None]):
             found = places[function][field]
+            if len(found) > 1:
+                found = in_order(found, layout[function], places[function].get(behind))
             if len(found) != 1:
-                raise Wrong("%s: %s may stand at %s" % (function, field, sorted(found)))
+                raise Wrong("%s: %s may stand at %s" % (function, field, sorted(found)[:8]))
             layout[function].append((field, found.pop(), sizes[function][field]))
     _, *hour = layout["m2m_hour_add"]
     layout["m2m_hour_open"] = [(field, at - hour[0][1], size) for field, at, size in hour]
     return layout
 
 
-# What is declared: a function's answer as its fields with offset and size, and the size of the whole.
-
-
-def by_lines(text):
-    declared = {}
-    for line in text.splitlines():
-        function, field, offset, size = line.split()
-        fields, _ = declared.setdefault(function, ([], 0))
-        if field == "whole":
-            declared[function] = (fields, int(size))
-        else:
-            fields.append((field, int(offset), int(size)))
-    return declared
-
-
-def structs_of_c(text):
-    """The fields of each struct, by the name of its type."""
-    plain = re.sub(r"/\*.*?\*/", "", text, flags=re.S)
-    structs = {}
-    for body, kind in re.findall(r"typedef struct \w+ \{(.*?)\} (\w+);", plain, re.S):
-        structs[kind] = [tuple(re.sub(r"\[.*", "", line).split()) for line in body.split(";") if line.strip()]
-    answers = {function: kind for kind, function in re.findall(r"(\w+) (m2m_\w+)\(", plain)}
-    return structs, answers
-
-
-def leaves(structs, kind, path=""):
-    for type_, field in structs[kind]:
-        if type_ in structs:
-            yield from leaves(structs, type_, path + field + ".")
-        else:
-            yield field, path + field
-
-
-def header(text, folder):
-    """The layout of the header's structs, as the C compiler has it."""
-    structs, answers = structs_of_c(text)
-    with open(os.path.join(folder, "m2m.h"), "w") as out:
-        out.write(text)
-    lines = []
-    for function in FUNCTIONS:
-        kind = answers[function]
-        for field, path in leaves(structs, kind):
-            lines.append('P("%s", "%s", offsetof(%s, %s), sizeof(((%s *)0)->%s));' % (function, field, kind, path, kind, path))
-        lines.append('P("%s", "whole", (size_t)0, sizeof(%s));' % (function, kind))
-    source = os.path.join(folder, "header.c")
-    with open(source, "w") as out:
-        out.write('#include "m2m.h"\n#include <stdio.h>\n#define P(f, n, o, s) printf("%s %s %zu %zu\\n", f, n, o, s)\n')
-        out.write("int main(void) {\n%s\nreturn 0;\n}\n" % "\n".join(lines))
-    return by_lines(said(compiled(folder, "header", "-I" + folder, source)))
-
-
-def rust(text, folder):
-    """The layout of the Rust declarations, as the Rust compiler has it."""
-    plain = re.sub(r"//[^\n]*|\bpub ", "", text)
-    structs, sources = {}, []
-    for kind, body in re.findall(r"#\[repr\(C\)\]\s*struct (\w+) \{(.*?)\n\}", plain, re.S):
-        structs[kind] = [
-            (type_.strip(), field) for field, type_ in re.findall(r"(\w+): ((?:\[[^\]]*\]|[^,\[])+),", body)
-        ]
-        sources.append("#[repr(C)] struct %s {%s}" % (kind, body))
-    answers = dict(re.findall(r"fn (m2m_\w+)\([^)]*\) -> (\w+);", plain))
-    used = {type_ for fields in structs.values() for type_, _ in fields}
-    for alias, type_ in dict(re.findall(r"\btype (\w+) = (\[[^\]]*\]|[^;\[]+);", plain)).items():
-        if alias in used:
-            sources.append("type %s = %s;" % (alias, type_))
-    lines = []
-    for function in FUNCTIONS:
-        kind = answers[function]
-        for field, path in leaves(structs, kind):
-            lines.append("p(%r, %r, offset_of!(%s, %s), size(|s: &%s| &raw const s.%s));" % (function, field, kind, path, kind, path))
-        lines.append("p(%r, 'whole', 0, size_of::<%s>());" % (function, kind))
-    source = os.path.join(folder, "rust.rs")
-    with open(source, "w") as out:
-        out.write("#![allow(dead_code)]\nuse std::mem::{offset_of, size_of};\n%s\n" % "\n".join(sources))
-        out.write("fn size<S, T>(_: impl Fn(&S) -> *const T) -> usize { size_of::<T>() }\n")
-        out.write('fn p(f: &str, n: &str, o: usize, s: usize) { println!("{f} {n} {o} {s}"); }\n')
-        out.write("fn main() {\n%s\n}\n" % "\n".join(lines).replace("'", '"'))
-    program = os.path.join(folder, "rust")
-    subprocess.run(["rustc", "--edition", "2021", "-o", program, source], check=True)
-    return by_lines(said(program))
-
-
-def rust_text():
-    paths = glob.glob(os.path.join(ROOT, "compare/src/**/*.rs"), recursive=True)
-    paths += glob.glob(os.path.join(ROOT, "second/src/*.rs"))
-    texts = []
-    for path in sorted(paths):
-        with open(path) as file:
-            text = file.read()
-        if "repr(C)" in text or 'extern "C"' in text or "pub type" in text:
-            texts.append(text)
-    return "\n".join(texts)
-
-
-def python():
-    """The layout of the front end's declarations."""
-    sys.path.insert(0, os.path.join(ROOT, "tools"))
-    from m2mlib import library
-
-    def fields(kind, base=0):
-        for field, type_ in kind._fields_:
-            at = getattr(kind, field)
-            if issubclass(type_, ctypes.Structure):
-                yield from fields(type_, base + at.offset)
-            else:
-                yield field, base + at.offset, at.size
-
-    answers = {
-        "m2m_settle": library.Statement,
-        "m2m_report": library.Printed,
-        "m2m_read": library.Sheet,
-        "m2m_hour_open": library.Hour,
-        "m2m_hour_add": library.Changed,
-        "m2m_hour_totals": library.Totals,
-    }
-    return {function: (list(fields(kind)), ctypes.sizeof(kind)) for function, kind in answers.items()}
-
-
-def hold(declared, layout, written):
+def hold(told, layout, written):
     """The declarations against the archive: each field where it is, and as long as it is; the whole as long as it is."""
-    for function, (fields, whole) in declared.items():
+    for function, (fields, whole) in told.items():
         if fields != layout[function]:
             wrong = [pair for pair in zip(fields, layout[function]) if pair[0] != pair[1]]
             raise Wrong("%s: declared and found differ, %s" % (function, wrong[:1] or "in the number of fields"))
-        if function == "m2m_entitlement":
+        if function in IN_REGISTERS:
             end = 16
         else:
             covered = {at for _, offset, size in fields for at in range(offset, offset + size)}
@@ -347,13 +241,13 @@ def swapped(text, one, other):
     return "".join({one: other, other: one}.get(part, part) for part in parts)
 
 
-def planted(text, edits, declared, layout, written, folder):
+def planted(text, edits, layout_of, layout, written, folder):
     for edit in edits:
         wrong = swapped(text, *edit) if edit[0].isidentifier() else text.replace(*edit, 1)
         if wrong == text:
             raise Wrong("nothing to plant a fault in: %r" % (edit,))
         try:
-            hold(declared(wrong, folder), layout, written)
+            hold(layout_of(FUNCTIONS, wrong, folder), layout, written)
         except Wrong:
             continue
         raise Wrong("a wrong declaration passed: %r" % (edit,))
@@ -381,6 +275,17 @@ HEADER_EDITS = (
     ("    uint8_t refusal;\n    m2m_hour hour;", "    m2m_hour hour;\n    uint8_t refusal;"),
     ("    uint32_t seconds;\n", "    uint64_t seconds;\n"),
     ("    uint32_t seconds;\n", ""),
+    ("load", "losses"),
+    ("import_", "export_"),
+    ("monitoring_price", "nonmonitoring_price"),
+    ("uint8_t line; ", "uint16_t line; "),
+    ("int16_t factor;", "int32_t factor;"),
+    ("    uint16_t index;\n    int16_t factor;", "    int16_t factor;\n    uint16_t index;"),
+    ("M2M_MOST_UNITS 256", "M2M_MOST_UNITS 255"),
+    ("M2M_MOST_FACTORS 2888", "M2M_MOST_FACTORS 2889"),
+    ("    size_t point_count;\n", ""),
+    ("    uint8_t refusal;\n    m2m_draft draft;", "    m2m_draft draft;\n    uint8_t refusal;"),
+    ("    uint8_t refusal;\n    size_t length;", "    size_t length;\n    uint8_t refusal;"),
 )
 RUST_EDITS = (
     ("nyiso", "pjm"),
@@ -393,6 +298,14 @@ RUST_EDITS = (
     ("monitoring_rto: u8,", "monitoring_rto: u16,"),
     ("seconds: u32,", "seconds: u64,"),
     ("    pub hour: Hour,\n", ""),
+    ("import", "export"),
+    ("load", "losses"),
+    ("zones: [Zone; 33],", "zones: [Zone; 32],"),
+    ("factors: [Factor; 2889],", "factors: [Factor; 2888],"),
+    ("index: u16,", "index: u32,"),
+    ("actual: i32,", "actual: i64,"),
+    ("par_count: usize,", "par_count: u32,"),
+    ("    pub draft: Draft,\n", ""),
 )
 
 
@@ -402,15 +315,18 @@ def main():
     with tempfile.TemporaryDirectory() as folder:
         for language in ("c", "c++"):
             subprocess.run(["cc", "-x", language, "-fsyntax-only", "-Wall", "-Wextra", "-Werror", HEADER], check=True)
-        sheet_s = compiled(folder, "sheet_s", "-I" + os.path.dirname(HEADER), os.path.join(HERE, "sheet_s.c"), ARCHIVE)
         data = os.path.join(ROOT, "crates/settle")
-        said(sheet_s, *(os.path.join(data, file) for file in ("data/sheet.bin", "data/entitle.bin", "stdout")))
+        files = [os.path.join(data, file) for file in ("data/sheet.bin", "data/entitle.bin", "stdout")]
+        for name, words in (("sheet_s", files), ("altered", files[:2])):
+            source = os.path.join(HERE, name + ".c")
+            said(compiled(folder, name, "-I" + os.path.dirname(HEADER), source, ARCHIVE), *words)
         layout, written = seen(compiled(folder, "raw", os.path.join(HERE, "raw.c"), ARCHIVE), folder)
-        hold(header(text, folder), layout, written)
-        hold(rust(rust_text(), folder), layout, written)
-        hold(python(), layout, written)
-        faults = planted(text, HEADER_EDITS, header, layout, written, folder)
-        faults += planted(rust_text(), RUST_EDITS, rust, layout, written, folder)
+        rust_text = declared.rust_text()
+        hold(declared.header(FUNCTIONS, text, folder), layout, written)
+        hold(declared.rust(FUNCTIONS, rust_text, folder), layout, written)
+        hold(declared.python(), layout, written)
+        faults = planted(text, HEADER_EDITS, declared.header, layout, written, folder)
+        faults += planted(rust_text, RUST_EDITS, declared.rust, layout, written, folder)
         with open(os.path.join(ROOT, "crates/report/proofs/Longest.antt")) as file:
             room = re.search(r"row-23-not-met : .* (\d+) ≤ length out", file.read()).group(1)
         if "#define M2M_LISTING_ROOM %s\n" % room not in text:

@@ -2,35 +2,9 @@
  * the listing, the reader's counts, the entitlement, refusals, and hours that take it. */
 #include "m2m.h"
 
-#include <stdio.h>
-#include <stdlib.h>
+#include "check.h"
+
 #include <string.h>
-
-static int failures;
-
-static void check(int holds, const char *what) {
-    if (!holds) {
-        fprintf(stderr, "sheet_s: %s\n", what);
-        failures++;
-    }
-}
-#define CHECK(condition) check(condition, #condition)
-
-typedef struct {
-    uint8_t bytes[1000];
-    size_t length;
-} file;
-
-static file content(const char *name) {
-    file f = {{0}, 0};
-    FILE *in = fopen(name, "rb");
-    if (!in || (f.length = fread(f.bytes, 1, sizeof f.bytes, in)) == sizeof f.bytes || ferror(in)) {
-        perror(name);
-        exit(2);
-    }
-    fclose(in);
-    return f;
-}
 
 static void check_figures(m2m_statement s) {
     CHECK(s.refusal == 0);

@@ -7,11 +7,17 @@ ghost use Rattle.settlement.specs.Promise.{Promise};
 ghost use Rattle.report.specs.Report.{reported, left};
 ghost use Rattle.hours.specs.Hour.{opened, added};
 ghost use Rattle.grown_hours.specs.Promise.{Promise as Hour·Promise};
+ghost use Rattle.drafts.specs.Draft.{given};
+ghost use Rattle.draft_reader.specs.DraftReader.{draftedFrom};
+ghost use Rattle.sheet_writer.specs.Promise.{Promise as Sheet·Promise};
 ghost use Rattle.exports.specs.Answers.{readAnswer, entitlementAnswer};
+use draft_reader::Drafted;
+use drafts::Draft;
 use hours::Changed;
 use hours::Hour;
 use hours::Totals;
 use listing::Printed;
+use sheet_writer::Written;
 use statement::Statement;
 
 // What the reader answers: 0 and the counts of an accepted sheet's records, or a refusal's number and the offending record's place.
@@ -106,4 +112,18 @@ pub extern "C" fn m2m_hour_totals(hour: Hour) -> Totals
     ensures { λ r. ⌜ Hour·Promise hour r ⌝ }
 {
     grown_hours::totals(hour)
+}
+
+#[no_mangle]
+pub extern "C" fn m2m_read_draft(sheet: &[u8]) -> Drafted
+    ensures { λ r. ⌜ r ≡ draftedFrom (now (sheet .entry)) ⌝ }
+{
+    draft_reader::read_draft(sheet)
+}
+
+#[no_mangle]
+pub extern "C" fn m2m_write_draft(draft: Draft, out: &mut [u8]) -> Written
+    ensures { λ r. ⌜ Sheet·Promise (given draft) (now (out .entry)) (now (out .exit)) r ⌝ }
+{
+    sheet_writer::write_draft(draft, out)
 }

@@ -1,0 +1,103 @@
+/* altered SHEET LIST: a C program that plans. Reads sheet S of document 01 as a draft and checks its records, alters a
+ * schedule, writes the sheet and settles it again; then drafts that are refused. */
+#include "m2m.h"
+
+#include "check.h"
+
+#include <string.h>
+
+static int named(const uint8_t *name, const char *word) {
+    char filled[16] = {0};
+    memcpy(filled, word, strlen(word));
+    return memcmp(name, filled, sizeof filled) == 0;
+}
+
+static void check_draft(const m2m_draft *d) {
+    CHECK(named(d->head.name, "A\\B") && d->head.monitoring_rto == 2 && d->head.seconds == 300);
+    CHECK(d->head.monitoring_price == 5000 && d->head.nonmonitoring_price == 2000);
+    CHECK(d->zone_count == 2 && named(d->zones[1].name, "Z2") && d->zones[1].load == 1950 && d->zones[1].losses == 50);
+    CHECK(d->unit_count == 2 && named(d->units[1].name, "U2") && d->units[1].zone == 2 && d->units[1].output == 2000);
+    CHECK(d->point_count == 2 && named(d->points[0].name, "P1") && d->points[0].sort == 2);
+    CHECK(d->points[0].line == 1 && d->points[0].zone == 2);
+    CHECK(d->points[0].import_ == 500 && d->points[0].export_ == 0);
+    CHECK(d->points[1].line == 0 && d->points[1].zone == 0 && d->points[1].export_ == 200);
+    CHECK(d->par_count == 1 && named(d->pars[0].name, "T1") && d->pars[0].class_ == 1);
+    CHECK(d->pars[0].actual == 400 && d->pars[0].target == 380);
+    CHECK(d->factor_count == 13 && d->factors[1].factor == -1000);
+    CHECK(d->factors[12].target == 1 && d->factors[12].subject == 3 && d->factors[12].index == 2);
+    CHECK(d->zones[2].name[0] == 0 && d->units[M2M_MOST_UNITS].zone == 0 && d->factors[M2M_MOST_FACTORS].target == 0);
+}
+
+/* Every byte of the buffer from here on is as it was. */
+static int untouched(const uint8_t *out, size_t from, size_t room) {
+    for (size_t k = from; k < room; k++)
+        if (out[k] != 0xa5)
+            return 0;
+    return 1;
+}
+
+static void check_refused(const m2m_draft *d, size_t room, uint8_t number) {
+    uint8_t out[M2M_SHEET_ROOM];
+    memset(out, 0xa5, sizeof out);
+    m2m_written w = m2m_write_draft(*d, out, room);
+    CHECK(w.refusal == number && w.length == 0 && untouched(out, 0, sizeof out));
+}
+
+/* An import of 60 MW instead of 50 for P1, the line into zone 2: the same steps on other figures. */
+static void check_altered(m2m_draft d, const file *sheet, const file *list) {
+    uint8_t out[M2M_SHEET_ROOM];
+    memset(out, 0xa5, sizeof out);
+    m2m_written w = m2m_write_draft(d, out, sizeof out);
+    CHECK(w.refusal == 0 && w.length == sheet->length && memcmp(out, sheet->bytes, w.length) == 0);
+    CHECK(untouched(out, w.length, sizeof out));
+    d.points[0].import_ = 600;
+    w = m2m_write_draft(d, out, w.length);
+    CHECK(w.refusal == 0 && w.length == sheet->length && memcmp(out, sheet->bytes, w.length) != 0);
+    uint8_t listing[M2M_LISTING_ROOM];
+    m2m_printed p = m2m_report(out, w.length, list->bytes, list->length, listing, sizeof listing);
+    CHECK(p.statement.refusal == 0 && p.statement.parallel == 6000000 && p.statement.shadow == 400000);
+    CHECK(p.statement.amount != 1328125);
+    m2m_drafted again = m2m_read_draft(out, w.length);
+    CHECK(again.refusal == 0 && again.draft.points[0].import_ == 600);
+    again.draft.points[0].import_ = 500;
+    check_draft(&again.draft);
+}
+
+static void check_refusals(const m2m_draft *sound, size_t length) {
+    m2m_draft d = *sound;
+    check_refused(&d, length - 1, 27);
+    check_refused(&d, 0, 27);
+    d.points[0].zone = 0;
+    check_refused(&d, 0, 8);
+    d.points[0].import_ = 200001;
+    check_refused(&d, length, 8);
+    d.points[0].line = 0;
+    check_refused(&d, length, 9);
+    d = *sound;
+    d.factors[1].factor = -10001;
+    check_refused(&d, length, 11);
+    d.factor_count = SIZE_MAX;
+    check_refused(&d, length, 11);
+    d.factors[1].factor = 0;
+    check_refused(&d, length, 10);
+    d.factor_count = 12;
+    check_refused(&d, length, 13);
+    d.unit_count = SIZE_MAX;
+    check_refused(&d, length, 6);
+    memset(&d, 0xff, sizeof d);
+    check_refused(&d, length, 8);
+}
+
+int main(int count, char **words) {
+    if (count != 3)
+        return 2;
+    file sheet = content(words[1]), list = content(words[2]);
+    m2m_drafted d = m2m_read_draft(sheet.bytes, sheet.length);
+    CHECK(d.refusal == 0);
+    check_draft(&d.draft);
+    check_altered(d.draft, &sheet, &list);
+    check_refusals(&d.draft, sheet.length);
+    d = m2m_read_draft(sheet.bytes, sheet.length - 1);
+    CHECK(d.refusal == 3 && d.draft.head.name[0] == 0 && d.draft.zone_count == 0 && d.draft.factors[12].index == 0);
+    return failures ? 1 : 0;
+}
