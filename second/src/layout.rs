@@ -47,6 +47,8 @@ pub const MOST_ZONES: usize = 32;
 pub const MOST_UNITS: usize = 256;
 pub const MOST_POINTS: usize = 32;
 pub const MOST_PARS: usize = 8;
+/// How many bytes a sheet has that has all of them.
+pub const LONGEST_SHEET: usize = 27_748;
 
 pub const SECONDS: RangeInclusive<i64> = 1..=900;
 pub const PRICES: RangeInclusive<i64> = 0..=400_000;

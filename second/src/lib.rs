@@ -4,6 +4,8 @@
 
 pub mod balance;
 pub mod bigint;
+pub mod content;
+pub mod content_rows;
 pub mod draft;
 pub mod due;
 pub mod entitlement;
@@ -21,9 +23,12 @@ pub mod rows;
 pub mod settle;
 pub mod sheet;
 pub mod units;
+pub mod writer;
 
+pub use content::Content;
 pub use hour::Hour;
 pub use listing::{listing, printed, report};
 pub use names::Name;
 pub use refusal::Refusal;
 pub use settle::{Statement, settle};
+pub use writer::write;

@@ -40,6 +40,8 @@ pub enum Refusal {
     PastTheHour = 25,
     /// Another flowgate name or Monitoring RTO than the hour's.
     OtherFlowgate = 26,
+    /// The buffer is shorter than the sheet to be written.
+    NoRoomForSheet = 27,
 }
 
 impl Refusal {

@@ -12,11 +12,12 @@ pub enum Rto {
     Pjm = 2,
 }
 
-/// The type of a scheduling point, the class of a PAR.
+/// The type of a scheduling point, the class of a PAR, by its code.
 #[derive(Clone, Copy, Debug, PartialEq, Eq)]
+#[repr(u8)]
 pub enum Class {
-    Common,
-    NonCommon,
+    Common = 1,
+    NonCommon = 2,
 }
 
 /// A zone's number on its sheet, from 1.
