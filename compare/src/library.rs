@@ -1,7 +1,9 @@
 //! The proved settlement behind its C interface.
 
+use second::listing::LONGEST_LISTING;
 use second::names::NameField;
 
+use crate::sides::drafts::{Draft, Drafted, Drafts, Written};
 use crate::sides::hours::{Changed, Hour, HourTotals, Hours};
 use crate::sides::{EntitlementAnswer, Figures, Printed, ReadAnswer, Side};
 
@@ -31,6 +33,8 @@ unsafe extern "C" {
         list_len: usize,
     ) -> Changed;
     fn m2m_hour_totals(hour: Hour) -> HourTotals;
+    fn m2m_read_draft(sheet: *const u8, sheet_len: usize) -> Drafted;
+    fn m2m_write_draft(draft: Draft, out: *mut u8, out_len: usize) -> Written;
 }
 
 #[derive(Default)]
@@ -85,5 +89,23 @@ impl Hours for Library {
 
     fn totals(&self, hour: &Hour) -> HourTotals {
         unsafe { m2m_hour_totals(*hour) }
+    }
+}
+
+// SAFETY, of each call: as above; drafts are handed over as copies.
+impl Drafts for Library {
+    fn read_draft(&self, sheet: &[u8]) -> Drafted {
+        unsafe { m2m_read_draft(sheet.as_ptr(), sheet.len()) }
+    }
+
+    fn write_draft(&self, draft: &Draft, out: &mut [u8]) -> Written {
+        unsafe { m2m_write_draft(*draft, out.as_mut_ptr(), out.len()) }
+    }
+
+    fn resettle(&self, sheet: &[u8], import: u32, list: &[u8], out: &mut [u8]) -> Printed {
+        let mut drafted = self.read_draft(sheet);
+        drafted.draft.points[0].import = import;
+        let length = self.write_draft(&drafted.draft, out).length;
+        self.report(&out[..length], list, &mut [0; LONGEST_LISTING])
     }
 }

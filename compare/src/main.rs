@@ -10,9 +10,10 @@ use compare::sides::{Second, Sides};
 
 const USAGE: &str = "compare [options]
   --seed N         seed of the inputs (from the commit, or 1)
-  --count M        how many seeded inputs (20000), and 1 in 20 of them hours
+  --count M        how many seeded inputs (20000), and 1 in 20 of them hours, 1 in 2
+                   sheets read as drafts and drafts written
   --only K         the K-th input of the seed alone
-  --question NAME  one question alone: settle or hour
+  --question NAME  one question alone: settle, hour or write
   --cases FOLDER   folder of the case files (tests/cases)
   --hours FOLDER   folder of those of hours (tests/hours)
   --program PATH   run this program too, settle or hour by its name; as often as

@@ -3,6 +3,7 @@
 
 pub mod hour;
 pub mod settle;
+pub mod write;
 
 use std::path::{Path, PathBuf};
 
@@ -31,7 +32,10 @@ pub trait Question {
     fn sweeps(&mut self, sides: &Sides, seed: u64) -> Outcome;
 
     /// The same question to a program.
-    fn program(&mut self, program: &Path, seed: u64) -> Outcome;
+    fn program(&mut self, program: &Path, _seed: u64) -> Outcome {
+        let what = format!("program {}", program.display());
+        Err(Trouble::outside(&what, "no program answers this question"))
+    }
 
     fn tally(&self) -> &Tally;
 }
@@ -56,5 +60,6 @@ pub fn all(cases: &CaseFiles) -> Result<Vec<Box<dyn Question>>, String> {
     Ok(vec![
         Box::new(settle::Settle::with_cases(&cases.settle)?),
         Box::new(hour::Hours::with_cases(&cases.hour)?),
+        Box::new(write::Write::default()),
     ])
 }

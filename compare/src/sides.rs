@@ -1,10 +1,12 @@
 //! The two sides of the comparison answer the same questions, in plain numbers: what
 //! a side says is compared as it stands, sensible or not.
 
+pub mod drafts;
 pub mod hours;
 
 use second::names::NameField;
 
+use drafts::Drafts;
 use hours::Hours;
 
 /// A statement; a refused one has the number and zeros everywhere else.
@@ -68,7 +70,7 @@ pub struct EntitlementAnswer {
     pub value: i64,
 }
 
-pub trait Side: Hours {
+pub trait Side: Hours + Drafts {
     fn settle(&self, sheet: &[u8], list: &[u8]) -> Figures;
     fn report(&self, sheet: &[u8], list: &[u8], out: &mut [u8]) -> Printed;
     fn read(&self, sheet: &[u8]) -> ReadAnswer;
@@ -224,6 +226,7 @@ macro_rules! reference {
         }
 
         $crate::hours!($name, $second);
+        $crate::drafts!($name, $second);
     };
 }
 

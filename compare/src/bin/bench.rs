@@ -1,6 +1,7 @@
 //! bench: the time of the proved settlement and of the second implementation, side
 //! by side, on the same inputs.
 
+use std::cell::RefCell;
 use std::hint::black_box;
 use std::time::Instant;
 
@@ -10,6 +11,7 @@ use compare::interval::{Interval, Scale, Sizes, drawn};
 use compare::library::Library;
 use compare::sides::{Second, Side};
 use second::draft;
+use second::layout::LONGEST_SHEET;
 use second::listing::LONGEST_LISTING;
 use second::names::NameField;
 
@@ -93,6 +95,18 @@ fn read_row(what: &str, sheet: &[u8]) {
 fn list_row(what: &str, list: &[u8], name: &NameField) {
     let question = |side: &dyn Side| side.entitlement(list, name).value;
     row(what, list.len(), Box::new(question));
+}
+
+/// Reads a sheet as a draft, gives its first point this import, writes and settles it.
+fn resettle_row(what: &str, sheet: &[u8], import: u32, list: &[u8]) {
+    let out = RefCell::new(vec![0; LONGEST_SHEET]);
+    let resettled = |side: &dyn Side| {
+        let out = &mut out.borrow_mut();
+        side.resettle(sheet, import, list, out).figures
+    };
+    assert_eq!(resettled(&Second).refusal, 0, "it is refused");
+    let question = |side: &dyn Side| resettled(side).amount;
+    row(what, sheet.len() + list.len(), Box::new(question));
 }
 
 /// Opens an hour and adds the sheets, each with the same list.
@@ -254,6 +268,18 @@ fn crafted(chance: &mut Chance) {
     read_row("longest sheet, reading alone, one bucket", &sheet);
 }
 
+/// Sheets that are read, altered, written and settled again.
+fn drafts(chance: &mut Chance) {
+    let sheet_s = draft::sheet_s().concat();
+    let what = "sheet S read, altered, written and settled";
+    resettle_row(what, &sheet_s, 600, &draft::list_s());
+    let longest = interval(chance, Sizes::LONGEST, false);
+    let list = draft::entitlement(longest.head.name, 5);
+    let import = longest.points[0].import.saturating_sub(1);
+    let what = "longest sheet read, written and settled again";
+    resettle_row(what, &longest.records().concat(), import, &list);
+}
+
 fn main() {
     let chance = &mut Chance::of(2024, 1);
     println!("Microseconds, best of {ROUNDS} rounds; a buffer of {LONGEST_LISTING} bytes.");
@@ -272,4 +298,6 @@ fn main() {
     hour(chance);
     println!("Crafted names:");
     crafted(chance);
+    println!("Drafts, one entry:");
+    drafts(chance);
 }

@@ -1,0 +1,207 @@
+//! Situations that a comparison of drafts must not miss.
+
+use second::layout::{LONGEST_SHEET, SCHEDULES};
+
+use crate::sides::drafts::{Draft, Point};
+use crate::tally::Tally;
+
+/// What writing can answer.
+const ROWS: [u8; 11] = [0, 5, 6, 7, 8, 9, 10, 11, 12, 13, 27];
+/// The last row that a sheet can meet.
+const LAST_OF_SHEET: u8 = 13;
+
+const ACCEPTED: [&str; 10] = [
+    "a buffer exactly long enough",
+    "a buffer one byte longer",
+    "the longest sheet",
+    "neither points nor PARs",
+    "a factor below zero",
+    "a PAR's flow below zero",
+    "a line told by another number than 1",
+    "a proxy that tells a zone",
+    "the last of 32 zones as a line's end",
+    "a cell behind the counts that is not zero",
+];
+
+const TOO_SHORT: [&str; 3] = [
+    "row 27 by one byte",
+    "row 27 of an empty buffer",
+    "row 27 of the longest sheet",
+];
+
+const INTO_ZONE_0: [&str; 5] = [
+    "a line into zone 0 on the first point",
+    "a line into zone 0 on a later point",
+    "a line into zone 0 on the 32nd point",
+    "a line into zone 0 that is told by another number than 1",
+    "a line into zone 0 with a schedule out of range",
+];
+
+const COUNTS: [&str; 13] = [
+    "a 33rd zone",
+    "a 257th unit",
+    "a 33rd point",
+    "a 9th PAR",
+    "a 2,889th factor",
+    "2^64 - 1 zones",
+    "2^64 - 1 units",
+    "2^64 - 1 points",
+    "2^64 - 1 PARs",
+    "2^64 - 1 factors",
+    "row 12 with factors due",
+    "row 12 without zones",
+    "row 13 without any factor",
+];
+
+/// The tally's groups.
+const READ: usize = 0;
+const WRITTEN: usize = 1;
+const SHORT: usize = 2;
+const LANDMARKS: usize = 3;
+const PAIRS: usize = 4;
+
+pub fn tally() -> Tally {
+    let told = |row: u8| match row {
+        0 => String::from("accepted"),
+        row => format!("refused {row}"),
+    };
+    let landmarks = ACCEPTED.iter().chain(&TOO_SHORT);
+    let landmarks = landmarks.chain(&INTO_ZONE_0).chain(&COUNTS);
+    let short = ROWS[1..]
+        .iter()
+        .map(|row| format!("row {row} in a short buffer"));
+    let pairs = pairs().into_iter();
+    Tally::default()
+        .with("sheets read", (0..=LAST_OF_SHEET).map(told).collect(), true)
+        .with("drafts written", ROWS.map(told).to_vec(), true)
+        .with("rows where the buffer is too short", short.collect(), false)
+        .with(
+            "landmarks",
+            landmarks.map(|it| it.to_string()).collect(),
+            true,
+        )
+        .with(
+            "rows of two records",
+            pairs
+                .map(|[row, later]| format!("row {row} before row {later}"))
+                .collect(),
+            false,
+        )
+}
+
+/// Rows of a record, and of a later one.
+fn pairs() -> Vec<[u8; 2]> {
+    let every = (6..=11).flat_map(|row| (6..=11).map(move |later| [row, later]));
+    // Behind a factor stands nothing but factors.
+    every
+        .filter(|[row, later]| *row < 10 || *later >= 10)
+        .collect()
+}
+
+pub fn mark_pair(tally: &mut Tally, rows: Option<[u8; 2]>) {
+    let place = rows.and_then(|rows| pairs().iter().position(|it| *it == rows));
+    if let Some(place) = place {
+        tally.mark(PAIRS, place);
+    }
+}
+
+pub fn mark_sheet(tally: &mut Tally, refusal: u8) {
+    tally.mark(READ, usize::from(refusal));
+}
+
+/// Counts what a draft showed.
+pub fn mark_draft(tally: &mut Tally, draft: &Draft, room: usize, refusal: u8) {
+    let Some(answer) = ROWS.iter().position(|row| *row == refusal) else {
+        return;
+    };
+    tally.mark(WRITTEN, answer);
+    if refusal == 0 {
+        shown(tally, 0, &accepted(draft, room));
+        return;
+    }
+    if room < draft.length() {
+        tally.mark(SHORT, answer - 1);
+    }
+    let before = ACCEPTED.len();
+    match refusal {
+        27 => shown(tally, before, &too_short(draft, room)),
+        8 => shown(tally, before + TOO_SHORT.len(), &into_zone_0(draft)),
+        _ => {
+            let before = before + TOO_SHORT.len() + INTO_ZONE_0.len();
+            shown(tally, before, &counts(draft, refusal));
+        }
+    }
+}
+
+fn shown(tally: &mut Tally, before: usize, shown: &[bool]) {
+    let places = shown.iter().enumerate().filter(|(_, shown)| **shown);
+    places.for_each(|(k, _)| tally.mark(LANDMARKS, before + k));
+}
+
+fn longest(draft: &Draft) -> bool {
+    draft.length() == LONGEST_SHEET
+}
+
+fn accepted(draft: &Draft, room: usize) -> [bool; ACCEPTED.len()] {
+    let length = draft.length();
+    let point = |holds: fn(u8, u8) -> bool| draft.points().iter().any(|it| holds(it.line, it.zone));
+    let behind = &draft.factors[draft.factor_count..];
+    [
+        room == length,
+        room == length + 1,
+        longest(draft),
+        draft.point_count + draft.par_count == 0,
+        draft.factors().iter().any(|it| it.factor < 0),
+        draft.pars().iter().any(|it| it.actual < 0 || it.target < 0),
+        point(|line, _| line > 1),
+        point(|line, zone| line == 0 && zone != 0),
+        point(|line, zone| line != 0 && zone == 32),
+        behind.iter().any(|it| it.index != 0),
+    ]
+}
+
+fn too_short(draft: &Draft, room: usize) -> [bool; TOO_SHORT.len()] {
+    [room + 1 == draft.length(), room == 0, longest(draft)]
+}
+
+fn into_zone_0(draft: &Draft) -> [bool; INTO_ZONE_0.len()] {
+    let at = |k: usize| {
+        draft
+            .points()
+            .get(k)
+            .is_some_and(Point::is_line_into_zone_0)
+    };
+    let any = |holds: fn(&Point) -> bool| {
+        let mut lines = draft.points().iter().filter(|it| it.is_line_into_zone_0());
+        lines.any(holds)
+    };
+    [
+        at(0),
+        (1..31).any(at),
+        at(31),
+        any(|it| it.line > 1),
+        any(|it| it.import.max(it.export) > *SCHEDULES.end() as u32),
+    ]
+}
+
+fn counts(draft: &Draft, refusal: u8) -> [bool; COUNTS.len()] {
+    let (zones, units, points) = (draft.zone_count, draft.unit_count, draft.point_count);
+    let (pars, factors) = (draft.par_count, draft.factor_count);
+    let is = |row| refusal == row;
+    let all = usize::MAX;
+    [
+        is(5) && zones == 33,
+        is(5) && zones <= 32 && units == 257,
+        is(5) && units <= 256 && points == 33,
+        is(5) && points <= 32 && pars == 9,
+        is(10) && factors == 2889,
+        is(5) && zones == all,
+        is(5) && zones <= 32 && units == all,
+        is(5) && units <= 256 && points == all,
+        is(5) && points <= 32 && pars == all,
+        is(10) && factors == all,
+        is(12) && zones > 0 && factors == 0,
+        is(12) && zones == 0,
+        is(13) && factors == 0,
+    ]
+}
