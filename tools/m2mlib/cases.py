@@ -1,4 +1,4 @@
-"""Case files: a sheet and a list, or those of an hour, and what is expected of them, printed for a program."""
+"""Case files: a sheet and a list, an hour's, or a sheet to write, and what is expected, printed for a program."""
 
 import os
 from typing import NamedTuple
@@ -11,6 +11,7 @@ from .trouble import Fault, Trouble
 
 SECTIONS = ("sheet", "entitlements")
 SETTINGS = ("expect", "buffer", "every-truncation", "every-buffer")
+TASKS = ("hour", "write")
 MOST_TIMES = 1000
 
 
@@ -36,11 +37,15 @@ class Section(NamedTuple):
 
 
 class Case(NamedTuple):
-    """Whether it is an hour's; the sheets in order, each with its list; what is expected, and of which sweep."""
+    """Its task, if not to settle; the sheets in order, each with its list; what is expected, and of which sweep."""
 
-    hour: bool
+    task: str
     intervals: list
     settings: list
+
+    @property
+    def hour(self):
+        return self.task == "hour"
 
 
 def case_lines(path):
@@ -52,8 +57,8 @@ def case_lines(path):
     if not any(setting.startswith("expect ") for setting in case.settings):
         raise Trouble(f"{path}: nothing is expected")
     yield f"case {path}"
-    if case.hour:
-        yield "hour"
+    if case.task:
+        yield case.task
     for interval in case.intervals:
         for name, part in zip(SECTIONS, interval):
             yield f"{name} {part.hex()}".strip()
@@ -63,7 +68,7 @@ def case_lines(path):
 
 def case_of(path, data):
     """The case that a text tells."""
-    hour, sections, settings, below = False, [], [], None
+    task, sections, settings, below = "", [], [], None
     for line in Text(path).numbered(path, data):
         if line.words[0] in SECTIONS:
             below = Section(line.words[0], line, [])
@@ -71,14 +76,14 @@ def case_of(path, data):
         elif line.words[0] in SETTINGS:
             below = None
             settings.append(" ".join(line.words))
-        elif line.words == ["hour"] and not (hour or sections or settings):
-            hour = True
+        elif line.words[0] in TASKS and not (line.words[1:] or task or sections or settings):
+            task = line.words[0]
         elif below is None:
             raise Fault("the line belongs to no section").at(line)
         else:
             below.lines.append(line)
-    intervals = in_order(path, sections) if hour else [alone(path, sections)]
-    return Case(hour, list(intervals), settings)
+    intervals = in_order(path, sections) if task == "hour" else [alone(path, sections)]
+    return Case(task, list(intervals), settings)
 
 
 def alone(path, sections):

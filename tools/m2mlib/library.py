@@ -8,6 +8,7 @@ from .trouble import Trouble
 
 ROOM = 288  # include/m2m.h: no listing is longer
 INTERVALS = 60  # include/m2m.h: no hour holds more
+LONGEST_SHEET = 27_748  # docs/FORMAT.md, 'The longest sheet'
 
 
 class Figure(NamedTuple):
@@ -98,6 +99,98 @@ class Totals(ctypes.Structure):
     ]
 
 
+NAME = ctypes.c_uint8 * 16
+
+
+class Head(ctypes.Structure):
+    """The head of a draft."""
+
+    _fields_ = [
+        ("name", NAME),
+        ("monitoring_rto", ctypes.c_uint8),
+        ("seconds", ctypes.c_uint16),
+        ("monitoring_price", ctypes.c_uint32),
+        ("nonmonitoring_price", ctypes.c_uint32),
+    ]
+
+
+class Zone(ctypes.Structure):
+    """A zone of a draft."""
+
+    _fields_ = [("name", NAME), ("load", ctypes.c_uint32), ("losses", ctypes.c_uint32)]
+
+
+class Unit(ctypes.Structure):
+    """A unit of a draft."""
+
+    _fields_ = [("name", NAME), ("zone", ctypes.c_uint8), ("output", ctypes.c_uint32)]
+
+
+class Point(ctypes.Structure):
+    """A scheduling point of a draft: its type, and 0 for a proxy or else a line and its zone."""
+
+    _fields_ = [
+        ("name", NAME),
+        ("sort", ctypes.c_uint8),
+        ("line", ctypes.c_uint8),
+        ("zone", ctypes.c_uint8),
+        ("import_", ctypes.c_uint32),
+        ("export", ctypes.c_uint32),
+    ]
+
+
+class Par(ctypes.Structure):
+    """A PAR of a draft."""
+
+    _fields_ = [
+        ("name", NAME),
+        ("class_", ctypes.c_uint8),
+        ("actual", ctypes.c_int32),
+        ("target", ctypes.c_int32),
+    ]
+
+
+class Factor(ctypes.Structure):
+    """A factor of a draft."""
+
+    _fields_ = [
+        ("target", ctypes.c_uint8),
+        ("subject", ctypes.c_uint8),
+        ("index", ctypes.c_uint16),
+        ("factor", ctypes.c_int16),
+    ]
+
+
+class Draft(ctypes.Structure):
+    """What a sheet holds: of each array as many as are counted. Each is one longer than a sheet may have."""
+
+    _fields_ = [
+        ("head", Head),
+        ("zone_count", ctypes.c_size_t),
+        ("zones", Zone * 33),
+        ("unit_count", ctypes.c_size_t),
+        ("units", Unit * 257),
+        ("point_count", ctypes.c_size_t),
+        ("points", Point * 33),
+        ("par_count", ctypes.c_size_t),
+        ("pars", Par * 9),
+        ("factor_count", ctypes.c_size_t),
+        ("factors", Factor * 2889),
+    ]
+
+
+class Drafted(ctypes.Structure):
+    """0 and what a sheet holds, or the reader's refusal and zeros."""
+
+    _fields_ = [("refusal", ctypes.c_uint8), ("draft", Draft)]
+
+
+class Written(ctypes.Structure):
+    """0 and the length of the sheet that was written, or a refusal's number and 0."""
+
+    _fields_ = [("refusal", ctypes.c_uint8), ("length", ctypes.c_size_t)]
+
+
 class Library:
     """The library, built if need be."""
 
@@ -108,6 +201,7 @@ class Library:
             self.report, self.read = library.m2m_report, library.m2m_read
             self.hour_open, self.hour_add = library.m2m_hour_open, library.m2m_hour_add
             self.hour_totals = library.m2m_hour_totals
+            self.draft_read, self.draft_write = library.m2m_read_draft, library.m2m_write_draft
         except (OSError, AttributeError) as error:
             raise Trouble(f"{path}: {error}") from None
         part = [ctypes.c_char_p, ctypes.c_size_t]
@@ -116,6 +210,8 @@ class Library:
         self.hour_open.argtypes, self.hour_open.restype = [], Hour
         self.hour_add.argtypes, self.hour_add.restype = [Hour, *part * 2], Changed
         self.hour_totals.argtypes, self.hour_totals.restype = [Hour], Totals
+        self.draft_read.argtypes, self.draft_read.restype = part, Drafted
+        self.draft_write.argtypes, self.draft_write.restype = [Draft, *part], Written
 
     def settle(self, sheet, entitlements):
         """The statement of an interval and its listing; a refusal has its one line."""
@@ -133,3 +229,13 @@ class Library:
     def add(self, hour, sheet, entitlements):
         """The hour with the interval, or a refusal's number and the hour as it was."""
         return self.hour_add(hour, sheet, len(sheet), entitlements, len(entitlements))
+
+    def read_draft(self, sheet):
+        """What a sheet holds, or the reader's refusal."""
+        return self.draft_read(sheet, len(sheet))
+
+    def write_draft(self, draft, room=LONGEST_SHEET):
+        """A refusal's number or 0, and the bytes of the sheet that a draft makes in a buffer of so many bytes."""
+        out = ctypes.create_string_buffer(max(room, 1))
+        written = self.draft_write(draft, out, room)
+        return written.refusal, out.raw[: written.length]

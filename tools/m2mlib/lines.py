@@ -33,14 +33,19 @@ def lines_of(name, data):
 
 def split_words(line):
     """The words of a line without its comment; quoted ones keep their quotes."""
+    return [line[at:end] for at, end in word_spans(line)]
+
+
+def word_spans(line):
+    """Where each word of a line begins and ends."""
     if '"' not in line and "$" not in line:
-        return PLAIN.findall(line.partition("#")[0])
-    words, at = [], BLANK.match(line).end()
+        return [word.span() for word in PLAIN.finditer(line.partition("#")[0])]
+    spans, at = [], BLANK.match(line).end()
     while at < len(line) and line[at] != "#":
         end = word_end(line, at)
-        words.append(line[at:end])
+        spans.append((at, end))
         at = BLANK.match(line, end).end()
-    return words
+    return spans
 
 
 def word_end(line, at):

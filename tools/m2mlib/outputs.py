@@ -31,7 +31,10 @@ class Listing:
         return encoded(f"{blank}==> {name} <==\n")
 
     def row(self, result):
-        return self.head(result.name) + result.listing
+        return self.head(result.name) + self.body(result)
+
+    def body(self, result):
+        return result.listing
 
     def end(self):
         return b""
@@ -40,9 +43,8 @@ class Listing:
 class Words(Listing):
     """For people: everyday units beside the exact figures, and refusals explained."""
 
-    def row(self, result):
-        lines = refused_words(result) if result.refusal else accepted_words(result.statement)
-        return self.head(result.name) + as_lines(lines)
+    def body(self, result):
+        return as_lines(refused_words(result) if result.refusal else accepted_words(result.statement))
 
 
 class Json(Listing):
@@ -63,7 +65,7 @@ class Csv(Listing):
     """A line of headings, then one line an interval."""
 
     def begin(self):
-        return csv_line([*ANSWER, *FLOWGATE, *map(heading, FIGURES)])
+        return csv_line(HEADINGS)
 
     def row(self, result):
         return csv_line(columns(result).values())
@@ -91,6 +93,9 @@ def csv_line(values):
 
 def heading(figure):
     return "_".join([LABELS.get(figure.name, figure.name), *figure.unit.split()])
+
+
+HEADINGS = [*ANSWER, *FLOWGATE, *map(heading, FIGURES)]
 
 
 def answer(result):
@@ -130,12 +135,6 @@ def name_line(holder):
     return f"flowgate     {name_text(name)}  (bytes {name.rstrip(bytes(1)).hex()})"
 
 
-def figure_line(figure, holder):
-    value = getattr(holder, figure.name)
-    label, exact = LABELS.get(figure.name, figure.name), f"{value} {figure.unit}"
-    return f"{label:<12} {everyday(value, figure):>20}   {exact:<34} {meaning(figure, holder)}"
-
-
 def meaning(figure, holder):
     """What a figure is; of a payment, who pays."""
     if figure.name == "gtl":
@@ -147,7 +146,18 @@ def meaning(figure, holder):
     return figure.meaning
 
 
+def figure_line(figure, holder, told=meaning):
+    value = getattr(holder, figure.name)
+    label, exact = LABELS.get(figure.name, figure.name), f"{value} {figure.unit}"
+    return f"{label:<12} {everyday(value, figure):>20}   {exact:<34} {told(figure, holder)}"
+
+
 def refused_words(result):
-    for label, words in refusal_words(result.refusal, result.sheet, result.place, result.entitlements):
+    return wrapped(refusal_words(result.refusal, result.sheet, result.place, result.entitlements))
+
+
+def wrapped(lines):
+    """Lines with their labels, none too long."""
+    for label, words in lines:
         start = f"{label + ':':<10}" if label else ""
         yield from textwrap.wrap(start + words, 100, subsequent_indent=" " * len(start)) or [start]

@@ -5,6 +5,7 @@ import time
 from functools import lru_cache
 from typing import NamedTuple
 
+from . import against
 from .inputs import LISTS, Input, intervals, load_one
 from .library import Library, Statement
 from .outputs import FORMATS, Listing
@@ -46,10 +47,12 @@ class Progress:
 
 def settle(call):
     """Settles all intervals; the status."""
-    form = chosen(call, FORMATS, Listing)
+    path = call.options.get("--against")
+    form = chosen(call, FORMATS, Listing) if path is None else chosen(call, against.FORMATS, against.Listing)
     todo = intervals(call.arguments, call.options.get("--list"))
+    old = None if path is None else against.old_sheets(path, call.arguments, todo)
     library = Library()
-    return each(todo, lambda interval: settle_one(interval, library), form(len(todo)), call.output)
+    return each(todo, lambda interval: settle_one(interval, library, old), form(len(todo)), call.output)
 
 
 def chosen(call, forms, plain):
@@ -85,8 +88,19 @@ def load_interval(interval):
     return load_one(interval.sheets), load_list(interval.lists)
 
 
-def settle_one(interval, library):
+def settle_one(interval, library, old=None):
+    """The interval settled; where there are old sheets, its old one too, against the same list."""
     sheet, entitlements = load_interval(interval)
+    new = settled(interval.name, sheet, entitlements, library)
+    if old is None:
+        return new
+    before = old[interval]
+    if before is None:
+        raise Trouble(f"{interval.name}: no old sheet has the same path")
+    return against.Pair(settled(before.name, load_one(before.sheets), entitlements, library), new)
+
+
+def settled(name, sheet, entitlements, library):
     statement, listing = library.settle(sheet.data, entitlements.data)
     place = library.place(sheet.data) if statement.refusal else None
-    return Result(interval.name, sheet, entitlements, statement, listing, place)
+    return Result(name, sheet, entitlements, statement, listing, place)

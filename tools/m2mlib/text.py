@@ -29,13 +29,14 @@ class Text(Reader):
     def __init__(self, path="", keep_faults=False):
         super().__init__(path or "text", keep_faults)
         self.open = [path] if path else []
-        self.pieces, self.steps = [], 0
+        self.source, self.pieces, self.steps = b"", [], 0
 
     def data(self):
         return b"".join(piece.data for piece in self.pieces)
 
     def read(self, data):
         """Takes the lines of a text."""
+        self.source = data
         self.run(self.lines(self.name, data), {})
         return self
 

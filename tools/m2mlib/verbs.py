@@ -12,6 +12,7 @@ from .hour import hour
 from .looks import check, show_file
 from .manual import manual
 from .records import LIST, SHEET
+from .setting import set_fields
 from .settle import settle
 from .text import Text
 from .trouble import Trouble, warn
@@ -78,8 +79,9 @@ def tell_manual(call):
 SEE = "'m2m --help' tells all"
 ANY = 1 << 62
 VERBS = {
-    "settle": Verb(settle, 1, ANY, ("words", "json", "csv", "list=")),
+    "settle": Verb(settle, 1, ANY, ("words", "json", "csv", "list=", "against=")),
     "hour": Verb(hour, 1, ANY, ("words", "json", "list=")),
+    "set": Verb(set_fields, 2, ANY, ("to=", "over")),
     "check": Verb(check, 1, ANY),
     "show": Verb(show_file, 1, 1),
     "text": Verb(text, 1, ANY),

@@ -10,6 +10,9 @@ SAMPLE = os.path.join(ROOT, "samples", "sheet-s")
 sys.path.insert(0, os.path.join(ROOT, "tools"))
 sys.dont_write_bytecode = True
 
+from m2mlib.drafts import alter  # noqa: E402
+from m2mlib.library import Draft  # noqa: E402
+from m2mlib.records import BY_NUMBER, SHEET, split, values  # noqa: E402
 from m2mlib.text import Text  # noqa: E402
 
 LONGEST = b"""
@@ -38,6 +41,19 @@ def content(*path):
 def to_bytes(text, **named):
     """The bytes of a text."""
     return Text(**named).read(text.encode() if isinstance(text, str) else text).data()
+
+
+def draft_of(data):
+    """The draft of an accepted sheet."""
+    draft = Draft()
+    for record in split(data, SHEET):
+        word, index = BY_NUMBER[record[0]].word, 0
+        if word != "head":
+            index = getattr(draft, word + "_count")
+            setattr(draft, word + "_count", index + 1)
+        for field, value in values(record):
+            alter(draft, word, index, field, None if field.value == "PLACE" and not value else value)
+    return draft
 
 
 def run(*arguments, data=b"", **named):

@@ -42,6 +42,9 @@ class Command(unittest.TestCase):
             ["settle", "--list"], ["settle", "a.txt"], ["settle", "no", "such"], ["show", "no-such"],
             ["settle", "--words", "--csv", SAMPLE], ["show", SAMPLE], ["text", "cases", "no-such"],
             ["hour"], ["hour", "--csv", SAMPLE], ["hour", "--words", "--json", SAMPLE], ["hour", "no-such"],
+            ["set"], ["set", "a.txt"], ["set", "no-such", "seconds 1"], ["set", SAMPLE, "seconds 1"],
+            ["set", "--to"], ["settle", "--against", "no-such", SAMPLE], ["settle", "--against", SAMPLE],
+            ["settle", "--against", os.path.dirname(SAMPLE), SAMPLE, SAMPLE], ["hour", "--against", SAMPLE, SAMPLE],
         ):
             outcome = run(*arguments, env={"PATH": os.environ["PATH"], "RT_JOBS": "1"})
             self.assertEqual(outcome.stdout, b"")

@@ -3,7 +3,9 @@
 import re
 import unittest
 
-from common import content
+from common import content, draft_of
+from m2mlib.changes import listed, read_changes
+from m2mlib.drafts import NAMED
 from m2mlib.forms import FORMS
 from m2mlib.library import FIGURES, HOUR_FIGURES, INTERVALS
 from m2mlib.manual import manual
@@ -38,6 +40,16 @@ class Documents(unittest.TestCase):
             self.assertTrue(word in HELP, word)
         self.assertLessEqual(set(DIRECTIVES), set(FORMS))
 
+    def test_changes(self):
+        for kind in (*NAMED, "factor"):
+            self.assertTrue(f"\n        {kind}: {listed(kind)}\n" in HELP, kind)
+            self.assertTrue(f"\n{kind}: {listed(kind)}\n" in FORMAT, kind)
+        draft = draft_of(content("crates/settle/data/sheet.bin"))
+        shown = HELP.split("Some changes:\n\n")[1].split("\n\n")[0].splitlines()
+        self.assertEqual(len(read_changes([line.strip() for line in shown], draft)), len(shown))
+        for line in shown:
+            self.assertIn(f"\n| `{line.strip()}` |", FORMAT)
+
     def test_the_table_of_records_is_formats(self):
         tables = {int(kind): table for kind, table in TABLE.findall(FORMAT)}
         tables[0x10] = LIST_TABLE.search(FORMAT).group(1)
@@ -60,7 +72,7 @@ class Documents(unittest.TestCase):
             self.assertIn(most, line)
 
     def test_every_refusal_has_its_words(self):
-        self.assertEqual(sorted(refusals()), list(range(1, 27)))
+        self.assertEqual(sorted(refusals()), list(range(1, 28)))
         for refusal in refusals().values():
             for words in (refusal.title, refusal.meaning, refusal.mend):
                 self.assertNotIn("|", words)

@@ -1,16 +1,22 @@
-"""20,000 damaged texts: each gives bytes or a fault, and its faults can be told. Nothing else happens."""
+"""20,000 damaged texts: each gives bytes or a fault, and its faults can be told. Nothing else happens.
+
+So with damaged changes: each is understood and the altered text means it, or a fault is told.
+"""
 
 import os
 import random
 import unittest
 
-from common import ROOT, content
+from common import ROOT, content, draft_of
 from m2mlib.cases import case_files
+from m2mlib.changes import read_changes
+from m2mlib.edits import edited, patched
 from m2mlib.faults import faults
 from m2mlib.forms import FORMS, show
 from m2mlib.records import kinds_of
 from m2mlib.text import DIRECTIVES, Text
 from m2mlib.trouble import Trouble
+from test_changes import EACH_FIELD
 
 COUNT = 20_000
 WORDS = [
@@ -68,6 +74,24 @@ class Fuzz(unittest.TestCase):
                 refused += 1
             self.told(text)
         self.assertGreater(min(accepted, refused), COUNT // 10)
+
+    def test_damaged_changes(self):
+        chance, text = random.Random(13), Text("/fuzz/text").read(content("samples/sheet-s/sheet.txt"))
+        draft, sound = draft_of(text.data()), [change.encode() for change, _, _ in EACH_FIELD]
+        accepted = refused = 0
+        for _ in range(COUNT // 2):
+            said = [damaged(chance.choice(sound), chance).decode("latin-1") for _ in range(chance.choice((1, 1, 2)))]
+            try:
+                changes = read_changes(said, draft)
+                accepted += 1
+            except Trouble as trouble:
+                self.assertTrue(str(trouble))
+                refused += 1
+                continue
+            data = patched(text.data(), changes)
+            new = edited(text, changes, data, text.name)
+            self.assertEqual(Text("/fuzz/text").read(new).data(), data, said)
+        self.assertGreater(min(accepted, refused), COUNT // 40)
 
     def told(self, text):
         """All faults of a text can be told."""

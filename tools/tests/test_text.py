@@ -237,6 +237,8 @@ class Cases(unittest.TestCase):
             "# never\nhour\nsheet 0\nraw 01\nexpect refused 1\n",
             "# two hours\nhour\nhour\nexpect seconds 0\n",
             "# an hour behind a sheet\nsheet\nhour\nexpect seconds 0\n",
+            "# an hour to write\nhour\nwrite\nsheet\nexpect refused 27\n",
+            "# two sheets to write\nwrite\nsheet\nsheet\nexpect refused 27\n",
         ):
             with self.assertRaises(Trouble):
                 self.case(text)
@@ -249,6 +251,10 @@ class Cases(unittest.TestCase):
         pairs = [("01", " 10"), ("01", " 10"), ("02", " 10"), ("03", ""), ("04", "")]
         expected = [line for pair in pairs for line in (f"sheet {pair[0]}", f"entitlements{pair[1]}")]
         self.assertEqual(lines, ["hour", *expected, "expect refused 1", "expect seconds 0", "end"])
+
+    def test_a_sheet_to_write(self):
+        lines = self.case("# Shows it\nwrite\nsheet\n  raw 01\nbuffer 0\nexpect refused 27\n")
+        self.assertEqual(lines, ["write", "sheet 01", "entitlements", "buffer 0", "expect refused 27", "end"])
 
     def test_an_empty_hour(self):
         self.assertEqual(self.case("# Nothing\nhour\nexpect seconds 0\n"), ["hour", "expect seconds 0", "end"])

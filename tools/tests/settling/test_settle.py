@@ -36,11 +36,11 @@ def cases():
 
 
 def examples():
-    """Number, sheet, list and settings of the examples of REFUSALS, those of hours left out."""
+    """Number, sheet, list and settings of the examples of REFUSALS, those of hours and of writing left out."""
     for number, refusal in refusals().items():
         for example in refusal.examples:
             case = case_of("REFUSALS.md", example.encode())
-            if not case.hour:
+            if not case.task:
                 yield number, *interval_of(case)
 
 
