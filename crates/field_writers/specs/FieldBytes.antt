@@ -5,12 +5,14 @@ use lib.IntN.{ℤ}
 use mir.Syntax.{w16, w32}
 use mir.Val.{ofZ}
 
+-- an unsigned number in two bytes, and in four
 abbrev pub bytes16 : ℕ → List ℕ
 bytes16 n = n / 256 ∷ n % 256 ∷ []
 
 abbrev pub bytes32 : ℕ → List ℕ
 bytes32 n = bytes16 (n / 65536) ++ bytes16 (n % 65536)
 
+-- a signed one
 unfoldable pub signed16 : ℤ → List ℕ
 signed16 z = bytes16 (ofZ w16 z)
 

@@ -2,11 +2,11 @@
 use Prim.Native.Nat.{ℕ, _≤_}
 use mathlib.Core.Path.{_≡_, refl, ap, ap₂}
 use mathlib.Core.Bool.{Bool, true, false, cond}
-use mathlib.Core.List.{List, [], _∷_, _++_, map, map-append, map-map}
+use mathlib.Core.List.{List, [], _∷_, map, map-map}
 use native.Mathlib.Omega.{arith}
 use lib.Dec.{eqb}
 use lib.ListN.{length, length-map}
-use borrow.Author.Tests.{eqb-true, eqb-false, lt-ltb, ne-eqb}
+use borrow.Author.Tests.{eqb-true, lt-ltb, ne-eqb}
 use Rattle.names.specs.Names.{seenBefore}
 use Rattle.records.specs.declared.Place.{Place}
 use Rattle.records.specs.declared.Place.the-variants.{Proxy, Line}
@@ -17,17 +17,10 @@ use Rattle.record_rows.specs.Rows.{oneTooMany, pointRow, lastRow}
 use Rattle.record_rows.specs.inner.Valid.{LineFits}
 use Rattle.record_rows.proofs.Passes.{point-pass}
 use Rattle.rows.proofs.NotMet.{row-pass}
-use Rattle.sheet_bytes.specs.ContentRow.{thenRow, inTurn, namedRow, contentRow}
+use Rattle.sheet_bytes.specs.ContentRow.{namedRow, contentRow}
 use Rattle.sheet_bytes.specs.inner.Returns.{Each}
+use Rattle.sheet_bytes.proofs.Turns.{turn-pass, turn-map}
 use Rattle.sheet_bytes.specs.inner.Marked.{nowhere, markedPlace, markedPoint, marked}
-
--- records in turn, and others that are judged the same
-module _ {A B : Type 0} (f : A → B) (rowA : List A → A → ℕ) (rowB : List B → B → ℕ) (same : (before : List A) (a : A) → rowB (map f before) (f a) ≡ rowA before a) where
-  pub turn-map : (l before : List A) (later : ℕ) → inTurn rowB (map f before) (map f l) later ≡ inTurn rowA before l later
-  unfolding inTurn
-  turn-map [] before later = refl
-  turn-map (a ∷ l) before later =
-      rw (same before a, ← turn-map l (before ++ (a ∷ [])) later, map-append f before (a ∷ [])) refl
 
 place-same : (zones : ℕ) (p : Place) → zones ≤ 33 → placeUnknown zones (markedPlace p) ≡ placeUnknown zones p
 place-same zones Proxy h = refl
@@ -52,23 +45,6 @@ same-row c h =
     rw (turn-map markedPoint (namedRow 4 (λ (p : Point). p .name) (pointRow (length (c .zones)))) (namedRow 4 (λ (p : Point). p .name) (pointRow (length (c .zones)))) (named-same (length (c .zones)) h) (c .points) [] _, length-map (c .points) markedPoint) refl
 
 -- ---- where no row fits no line goes into zone 0
-pub then-pass : (number later : ℕ) → thenRow number later ≡ 0 → (number ≡ 0) × (later ≡ 0)
-then-pass number later = pick (eqb number 0) refl
-  where
-    pick : (b : Bool) → eqb number 0 ≡ b → cond b later number ≡ 0 → (number ≡ 0) × (later ≡ 0)
-    pick true e z = (eqb-true number 0 e, z)
-    pick false e z = absurd (eqb-false number 0 e z)
-
-module _ {A : Type 0} (rowOf : List A → A → ℕ) where
-  -- each record passes behind some others, and what comes later passes
-  pub turn-pass : (l before : List A) (later : ℕ) → inTurn rowOf before l later ≡ 0 → Each (λ (a : A). (b : List A) × (rowOf b a ≡ 0)) l × (later ≡ 0)
-  unfolding inTurn
-  turn-pass [] before later e = (tt, e)
-  turn-pass (a ∷ l) before later e =
-      let p = then-pass (rowOf before a) _ e in
-      let q = turn-pass l (before ++ (a ∷ [])) later (p .1) in
-      (((before, p .0), q .0), q .1)
-
 unmarked-place : (zones : ℕ) (p : Place) → ((n : ℕ) → p ≡ Line n → LineFits zones n) → markedPlace p ≡ p
 unmarked-place zones Proxy f = refl
 unmarked-place zones (Line n) f = rw (ne-eqb n 0 (λ z. omega (arith, f n refl .least))) refl

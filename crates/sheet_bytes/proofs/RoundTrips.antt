@@ -9,10 +9,12 @@ use Rattle.fields.proofs.Bytes.{Bytes}
 use Rattle.records.specs.declared.Head.{Head}
 use Rattle.records.specs.Content.{Content, noHead, head}
 use Rattle.layout.specs.declared.Layout.{Layout}
+use Rattle.layout.specs.Layout.{layoutOf}
 use Rattle.sheet.specs.declared.Outcome.the-variants.{Accepted}
-use Rattle.sheet.specs.Sheet.{holds, reading, numberIn, readSheet, contentOf}
+use Rattle.sheet.specs.Sheet.{holds, reading, numberIn, outcome, readSheet, contentOf}
 use Rattle.sheet.proofs.Answers.{accepted-holds}
 use Rattle.sheet.proofs.Accepted.{passed, one-head}
+use Rattle.sheet.proofs.Long.{accepted-short}
 use Rattle.sheet_bytes.specs.SheetBytes.{sheetBytes}
 use Rattle.sheet_bytes.specs.ContentRow.{contentRow}
 use Rattle.sheet_bytes.specs.inner.Returns.{Returned}
@@ -32,6 +34,11 @@ module _ (c : Content) (h : Head) (one : c .heads ≡ h ∷ []) (returned : Retu
   again e =
       let m = unmarked c e in
       (rw m at (told (marked c) h one returned .holds-it)) e
+
+  -- no sheet that is written is longer than the longest
+  pub written-short : contentRow c ≡ 0 → length (sheetBytes c) ≤ 27748
+  unfolding readSheet
+  written-short e = accepted-short (sheetBytes c) (layoutOf c) (ap outcome (again e))
 
 single : (l : List Head) → length l ≡ 1 → l ≡ getD l 0 noHead ∷ []
 single [] e = absurd (omega arith)

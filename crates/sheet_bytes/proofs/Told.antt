@@ -1,11 +1,9 @@
 -- What the reader tells of a content's bytes: the content's own row, or the content.
 use Prim.Native.Nat.{ℕ, _+_, _≤_}
 use mathlib.Core.Path.{_≡_, refl, sym, ap, subst, _∙_}
-use mathlib.Core.Bool.{Bool, true, false, cond}
+use mathlib.Core.Bool.{Bool}
 use mathlib.Core.List.{List, [], _∷_, _++_, map, append-nil}
 use native.Mathlib.Omega.{arith}
-use lib.Dec.{eqb}
-use borrow.Author.Tests.{eqb-true}
 use lib.ListN.{length}
 use Rattle.names.specs.Names.{nameAt}
 use Rattle.record_table.specs.Table.{lastKind, bodyLength}
@@ -23,6 +21,7 @@ use Rattle.sheet.specs.Sheet.{holds, recordsFrom, reading}
 use Rattle.sheet_bytes.specs.SheetBytes.{headBody, zoneBody, unitBody, pointBody, parBody, factorBody, all, sheetBytes}
 use Rattle.sheet_bytes.specs.ContentRow.{thenRow, inTurn, namedRow, contentRow}
 use Rattle.sheet_bytes.specs.inner.Returns.{Returns, Each, Returned}
+use Rattle.sheet_bytes.proofs.Turns.{then-none}
 use Rattle.sheet_bytes.proofs.Steps.{judged, step, Tells, tells-held, tells-unless, section}
 
 -- A kind with names. `with l` is the content in which l are the kind's records: it counts, names, judges and takes them as its own
@@ -42,13 +41,6 @@ module _ {A : Type 0} (kind : ℕ) (low : 2 ≤ kind) (high : kind ≤ lastKind)
       ((at last : ℕ) → last ≤ kind → Tells (recordsFrom at 0 last (with l) rest) later c) →
       (at last : ℕ) → last ≤ kind → Tells (recordsFrom at 0 last (with []) (all kind body l ++ rest)) (inTurn (namedRow kind nameOf rowOf) [] l later) c
   named-section rest later c l h t = section kind body of (namedRow kind nameOf rowOf) with low high row-is next-is rest later c l [] h t
-
-later-zero : (number : ℕ) → thenRow number 0 ≡ number
-later-zero number = pick (eqb number 0) refl
-  where
-    pick : (b : Bool) → eqb number 0 ≡ b → cond b 0 number ≡ number
-    pick true e = sym (eqb-true number 0 e)
-    pick false e = refl
 
 -- a content c, and what is told of its records from a kind's first on
 module _ (c : Content) (h : Head) (one : c .heads ≡ h ∷ []) (returned : Returned c) where
@@ -104,7 +96,7 @@ module _ (c : Content) (h : Head) (one : c .heads ≡ h ∷ []) (returned : Retu
 
   end-told : From 6 c [] (lastRow c)
   unfolding recordsFrom
-  end-told at last o = rw (later-zero (lastRow c)) at (tells-unless (lastRow c) at 0 (holds c) c (tells-held c))
+  end-told at last o = rw (then-none (lastRow c)) at (tells-unless (lastRow c) at 0 (holds c) c (tells-held c))
 
   factors-told : From 6 (with-factors []) factors-on factors-row
   unfolding bodyRow withRecord

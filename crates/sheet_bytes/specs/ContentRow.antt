@@ -27,7 +27,7 @@ inTurn rowOf before (a ∷ l) later = thenRow (rowOf before a) (inTurn rowOf (be
 abbrev pub namedRow : {A : Type 0} → ℕ → (A → List ℕ) → (Bool → A → ℕ) → List A → A → ℕ
 namedRow kind nameOf rowOf before a = row 5 (oneTooMany kind (length before)) (rowOf (seenBefore (map nameOf before) (nameOf a)) a)
 
--- the first faulty record refuses, by the first row that fits it; then come the rows at the sheet's end
+-- The first faulty record refuses, by the first row that fits it; then come the rows at the sheet's end. A sheet's one head has no other before it
 unfoldable pub contentRow : Content → ℕ
 contentRow c =
     inTurn (λ before h. headRow h) [] (c .heads)

@@ -5,39 +5,24 @@ use mathlib.Core.Bool.{Bool, true, false, cond}
 use mathlib.Core.List.{List, [], _∷_}
 use native.Mathlib.Omega.{arith}
 use lib.Dec.{eqb, ltb}
-use lib.ListN.{length, take, length-append}
-use lib.Seq.{take-at}
-use borrow.Author.Tests.{eq-eqb, ne-eqb, lt-ltb, le-ltb}
+use lib.ListN.{length}
+use borrow.Author.Tests.{ne-eqb, lt-ltb, le-ltb}
 use Rattle.rows.specs.Rows.{row}
 use Rattle.records.specs.declared.Head.{Head}
 use Rattle.records.specs.Content.{Content}
 use Rattle.sheet.specs.Sheet.{reading}
 use Rattle.writers.specs.Written.{written}
 use Rattle.writers.specs.inner.Wrote.{Wrote}
-use Rattle.writers.proofs.Writing.{renamed}
+use Rattle.writers.proofs.Writing.{front, renamed}
 use Rattle.sheet_bytes.specs.SheetBytes.{sheetBytes}
-use Rattle.sheet_bytes.specs.ContentRow.{thenRow, contentRow}
+use Rattle.sheet_bytes.specs.ContentRow.{contentRow}
 use Rattle.sheet_bytes.specs.inner.Marked.{marked}
 use Rattle.sheet_bytes.specs.inner.Returns.{Returned}
 use Rattle.sheet_bytes.proofs.Marked.{unmarked}
+use Rattle.sheet_bytes.proofs.Turns.{then-met, then-passed}
 use Rattle.sheet_bytes.proofs.RoundTrips.{again}
 use Rattle.sheet_writer.specs.Writing.{refusalFor, sheetFor}
 use Rattle.sheet_writer.specs.Promise.{Promise}
-
--- the bytes lie in the buffer, and are its front
-pub within : {p xs ys : List ℕ} {n : ℕ} → Wrote p xs ys n → n ≤ length ys
-unfolding written
-within {p} {xs} w = rw (w .left, length-append) (omega (arith, w .count))
-
-pub front : {p xs ys : List ℕ} {n : ℕ} → Wrote p xs ys n → take n ys ≡ p
-unfolding written
-front {p} {xs} {ys} {n} w = rw (w .left) (take-at p _ n (sym (w .count)))
-
-then-met : (number later : ℕ) → (number ≡ 0 → ⊥) → thenRow number later ≡ number
-then-met number later n = rw (ne-eqb number 0 n) refl
-
-then-passed : (number later : ℕ) → number ≡ 0 → thenRow number later ≡ later
-then-passed number later e = rw (eq-eqb number 0 e) refl
 
 module _ (c : Content) (out : List ℕ) where
   abbrev row-27 : ℕ

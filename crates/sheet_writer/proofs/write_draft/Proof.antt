@@ -11,12 +11,13 @@ use Rattle.records.specs.Content.{Content}
 use Rattle.sheet_bytes.specs.SheetBytes.{sheetBytes}
 use Rattle.sheet_bytes.specs.ContentRow.{contentRow}
 use Rattle.sheet_bytes.proofs.Marked.{unmarked}
+use Rattle.writers.proofs.Writing.{front, within}
 use Rattle.sheet_bytes.proofs.RoundTrips.{row-read}
 use Rattle.drafts.specs.declared.Draft.{Draft}
 use Rattle.drafts.specs.Draft.{given}
 use Rattle.sheet_writer.specs.inner.Given.{atMost}
 use Rattle.sheet_writer.proofs.Given.{Parts, given-most, few-zones}
-use Rattle.sheet_writer.proofs.Answers.{within, front, refused, too-short, wrote}
+use Rattle.sheet_writer.proofs.Answers.{refused, too-short, wrote}
 use borrow.Author.Needs.{needs}
 use Rattle.sheet_writer.proofs.write_draft.Statement.{statement}
 use Rattle.sheet_writer.proofs.write_draft.Tie as tie
