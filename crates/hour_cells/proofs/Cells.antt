@@ -1,15 +1,10 @@
 -- The cells of an hour: their range, and what they come to at most.
-use Prim.Native.Nat.{ℕ, zero, suc, _+_, _*_, _<_, _≤_}
+use Prim.Native.Nat.{ℕ, _+_, _<_, _≤_}
 use native.Mathlib.Numerals.{add-one}
 use native.Mathlib.Omega.{arith}
 use mathlib.Core.Path.{_≡_, refl}
 use mathlib.Core.Bool.{Bool, true, false, cond}
-use mathlib.Core.List.{List, [], _∷_}
-use denote.Array.{each}
-use denote.Shadow.{shadow}
-use denote.Signed.{SInt}
-use mir.Syntax.{w64}
-use mir.Val.{Val, SFits}
+use mathlib.Core.List.{List}
 use borrow.Author.Tests.{ltb-true, ltb-false, le-ltb}
 use lib.Dec.{ltb}
 use lib.IntN.{ℤ, pos, negsuc, natAbs}
@@ -43,13 +38,7 @@ pub seconds-next : (seconds : List ℕ) (n : ℕ) → secondsTo seconds (n + 1) 
 unfolding secondsTo
 seconds-next seconds n = rw add-one
 
--- ---- amounts: each cell of the array fits an i64
-pub cell-fits : (xs : List ℤ) (us : List Val) (i : ℕ) → shadow (each ℤ (SInt w64 .own) xs us) → SFits w64 (getD xs i (pos 0))
-cell-fits [] us i p = record { sfits = omega arith }
-cell-fits (x ∷ xs) [] i p = absurd p
-cell-fits (x ∷ xs) (u ∷ us) zero p = record { sfits = p .0 .1 }
-cell-fits (x ∷ xs) (u ∷ us) (suc i) p = cell-fits xs us i (p .1)
-
+-- ---- amounts
 cell-within : (x : ℤ) → natAbs (cell x) ≤ 2000000000000
 unfolding cell
 cell-within x = by (ltZ x (negsuc 1999999999999)) (ltZ (pos 2000000000000) x) refl refl

@@ -8,3 +8,4 @@ pub mod Tactic
 pub mod Division
 pub mod Machine
 pub mod Sums
+pub mod Arrays

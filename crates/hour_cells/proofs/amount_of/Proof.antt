@@ -9,10 +9,11 @@ use borrow.Author.Needs.{needs}
 use lib.IntN.{_+ℤ_, pos}
 use lib.ListN.{getD}
 use Rattle.integers.specs.Sum.{sumTo}
+use Rattle.integers.proofs.Arrays.{cell-fits}
 use Rattle.integers.proofs.Machine.{Op, rd}
 use Rattle.integers.proofs.Sums.{next, sum-zero}
 use Rattle.hour_cells.specs.Cells.{cellAt, amountOf}
-use Rattle.hour_cells.proofs.Cells.{held-most, cell-fits, cell-at-within}
+use Rattle.hour_cells.proofs.Cells.{held-most, cell-at-within}
 use Rattle.hour_cells.proofs.amount_of.Statement.{statement}
 use Rattle.hour_cells.proofs.amount_of.Tie as tie
 
