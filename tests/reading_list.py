@@ -1,5 +1,6 @@
 #!/usr/bin/env python3
-"""What a reader must believe, by following the imports from the contracts of the entry points.
+"""What a reader must believe, by following the imports from the contracts of the entry points, and of the parts of
+the generation-to-load routine, which are read beside the schedule.
 
 A contract names definitions; a definition's file imports others. Every file so reached must stand in a
 crate's specs/ (specs/inner/ is for what only inner contracts cite), README's reading list must name each,
@@ -18,6 +19,9 @@ ENTRY_POINTS = [
     ("sheet", "read"),
     ("entitlements", "find"),
     ("listing", "print"),
+    ("generation_to_load", "loads"),
+    ("generation_to_load", "generation"),
+    ("generation_to_load", "flow"),
     ("hour_cells", "seconds_of"),
     ("hour_cells", "amount_of"),
     ("hours", "open"),

@@ -22,7 +22,7 @@ use Rattle.record_rows.specs.inner.Valid.{Valid}
 use Rattle.figures.specs.Balance.{imports, totalLoad, zoneLoad, netLoad, output, outputIn, zoneOutput, exports, zoneGeneration, netGeneration, finalGeneration, grossOutput, grossLoad, balanceRow}
 use Rattle.figures.specs.Flow.{factor, parFactor, outputTerm, weightedOutput, loadTerm, weightedLoad, firstDividend, loadShare, firstRemainder, grossFlow, secondDividend, generationToLoad, secondRemainder, parallel, shadow, control, carriedTerm, carriedSum, carried, redirect, nyisoMonitors, nonCommonRedirect, marketFlow}
 use Rattle.figures.specs.inner.Most.{mostPower, mostWeighted, mostShare, mostGenerationToLoad, mostSchedule, mostRedirect}
-use Rattle.figures.proofs.Numbers.{natural-least, less-left, size-most, size-rise, cond-within, times-within, sum-within, sum-rise, sum-term, sum-weighted, remainder-within, quotient-share}
+use Rattle.figures.proofs.Numbers.{natural-least, less-left, size-most, size-rise, cond-within, times-within, sum-within, sum-rise, sum-weighted, remainder-within, quotient-share}
 use Rattle.figures.proofs.Balanced.{imports-least, exports-least, gross-load-most, gross-output-most, zone-load-least, net-load-above, net-generation-above, final-generation-least, final-generation-most}
 use Rattle.figures.proofs.Factors.{unit-factor-within, zone-factor-within, par-factor-within}
 use Rattle.figures.proofs.Ranges.{parallel-within, shadow-within, control-within}
@@ -115,7 +115,7 @@ module _ {c : Content} (v : Valid c) (e : balanceRow c ≡ 0) where
     unfolding firstRemainder
     first-remainder-small = remainder-within (firstDividend c target) (netLoad c) (net-load-above c e) net-load-small
 
-    gross-flow-small : natAbs (grossFlow c target) ≤ mostGenerationToLoad
+    pub gross-flow-small : natAbs (grossFlow c target) ≤ mostGenerationToLoad
     unfolding grossFlow
     gross-flow-small =
         omega (

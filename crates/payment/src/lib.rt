@@ -1,8 +1,9 @@
-// The payment (document 01, 'The payment'; section 7.2).
+// The payment (document 01, 'The payment'; section 7.2), and refusal 22 on the flow that is paid on.
 ghost use mathlib.Core.Path.{_≡_};
 ghost use Prim.Native.Nat.{_≤_};
 ghost use lib.IntN.{natAbs};
 ghost use Rattle.record_rows.specs.inner.Valid.{HeadFits};
+ghost use Rattle.figures.specs.Flow.{flowRow};
 ghost use Rattle.figures.specs.Payment.{price, amountOf, payment};
 ghost use Rattle.figures.specs.inner.Most.{mostDifference, mostAmount};
 ghost use Rattle.payment.specs.inner.Payment.{paymentOf, Payable};
@@ -15,6 +16,15 @@ pub struct Payment {
     pub amount: i64,
     pub nyiso: i64,
     pub pjm: i64,
+}
+
+// Of the flow that is paid on, either way.
+const MOST_FLOW: u64 = 10_000_000_000;
+
+pub fn flow_row(flow: i64) -> u8
+    ensures { λ r. ⌜ r ≡ flowRow flow ⌝ }
+{
+    rows::row(22, MOST_FLOW < integers::magnitude(flow), 0)
 }
 
 // The price by the difference's side of the entitlement.

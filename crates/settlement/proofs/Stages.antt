@@ -1,5 +1,5 @@
 -- Each stage of the settlement: refused by its row, or passed on.
-use Prim.Native.Nat.{ℕ, _≤_}
+use Prim.Native.Nat.{_≤_}
 use mathlib.Core.Path.{_≡_, refl}
 use borrow.Author.Tests.{eq-eqb, ne-eqb}
 use lib.IntN.{ℤ, natAbs}
@@ -9,7 +9,7 @@ use Rattle.figures.specs.Balance.{balanceRow}
 use Rattle.figures.specs.Flow.{marketFlow, flowRow}
 use Rattle.figures.specs.Payment.{difference, amount}
 use Rattle.figures.proofs.Payments.{flow-within}
-use Rattle.flow.specs.inner.Flow.{flowOf}
+use Rattle.market_flow.specs.inner.Flow.{flowOf}
 use Rattle.payment.specs.inner.Payment.{paymentOf, Payable}
 use Rattle.settlement.specs.Settled.{figuresAt, intervalAt, refusedBy, afterBalance, afterList}
 use Rattle.settlement.specs.inner.Parts.{intervalOf}

@@ -2,13 +2,13 @@
 ghost use mathlib.Core.Path.{_≡_};
 ghost use Prim.Native.Nat.{_≤_};
 ghost use lib.IntN.{natAbs};
-ghost use Rattle.records.specs.Content.{head};
 ghost use Rattle.sheet.specs.declared.Outcome.the-variants.{Accepted};
 ghost use Rattle.sheet.specs.Sheet.{readSheet, contentOf};
-ghost use Rattle.flow.specs.inner.Flow.{Ready};
+ghost use Rattle.generation_to_load.specs.Steps.{Ready};
 ghost use Rattle.settlement.specs.Settled.{inputs, refusedBy, afterBalance, afterList, afterSheet, interval};
 ghost use Rattle.settlement.specs.inner.Parts.{intervalOf};
 ghost use Rattle.settlement.specs.Promise.{Promise};
+use generation_to_load::Balance;
 use records::Head;
 use statement::Statement;
 
@@ -30,7 +30,7 @@ fn refused(row: u8) -> Interval
     }
 }
 
-fn interval_of(h: Head, f: flow::Flow, p: payment::Payment) -> Interval
+fn interval_of(h: Head, f: market_flow::Flow, p: payment::Payment) -> Interval
     ensures { λ r. ⌜ r ≡ intervalOf h f p ⌝ }
 {
     let name = h.name;
@@ -58,39 +58,46 @@ fn interval_of(h: Head, f: flow::Flow, p: payment::Payment) -> Interval
     }
 }
 
-// The flow, and the payment on it. Row 22 is decided before anything is paid.
+// The flow, and the payment on it. Row 22 is judged on the flow that is paid on, before anything is paid.
 fn settle_flow<'a>(
     s: &[u8],
     l: layout::Layout,
-    b: balance::Balance,
-    plus: &'a [u64; 33],
-    minus: &'a [u64; 33],
+    b: Balance,
+    zone_loads: &'a [i64; 32],
     e: i64,
 ) -> Interval
-    requires { ⌜ Ready (now s) l b (now plus) (now minus) × (natAbs e ≤ 100000) ⌝ }
+    requires { ⌜ Ready (now s) l b (now «zone_loads») × (natAbs e ≤ 100000) ⌝ }
     ensures { λ r. ⌜ r ≡ afterBalance (contentOf (now (s .entry))) e ⌝ }
 {
-    let f = flow::flow_of(s, l, b, plus, minus);
-    if f.row != 0 {
-        return refused(f.row);
+    let f = market_flow::flow_of(s, l, b, zone_loads);
+    let flow_row = payment::flow_row(f.market);
+    if flow_row != 0 {
+        return refused(flow_row);
     }
     let h = sheet_records::head_at(s, l);
     let p = payment::pay(h, f.market, e);
     interval_of(h, f, p)
 }
 
-// The balance, then the flow.
+// Loads, generation and their balance, then the flow.
 fn settle_balance(s: &[u8], l: layout::Layout, e: i64) -> Interval
     requires { ⌜ (readSheet (now s) ≡ Accepted l) × (natAbs e ≤ 100000) ⌝ }
     ensures { λ r. ⌜ r ≡ afterList (contentOf (now (s .entry))) e ⌝ }
 {
-    let loads = balance::by_zone(s, l, balance::Ledger::Loads, l.zones);
-    let imports = balance::by_zone(s, l, balance::Ledger::Imports, l.points);
-    let b = balance::balance_of(s, l, &loads, &imports);
-    if b.row != 0 {
-        return refused(b.row);
+    let load = generation_to_load::loads(s, l);
+    let generation = generation_to_load::generation(s, l);
+    let balance_row = balance::balance_row(load, generation, l.zones);
+    if balance_row != 0 {
+        return refused(balance_row);
     }
-    settle_flow(s, l, b, &loads, &imports, e)
+    let b = Balance {
+        net_load: load.net_load,
+        gross_output: generation.gross_output,
+        net_generation: generation.net_generation,
+        final_generation: generation.final_generation,
+    };
+    let zone_loads = load.zone_loads;
+    settle_flow(s, l, b, &zone_loads, e)
 }
 
 // The entitlement list, then the balance.

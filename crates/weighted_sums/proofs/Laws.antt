@@ -1,13 +1,14 @@
 -- The weighted sums are the figures of steps 3 to 5; how large a term can be.
-use Prim.Native.Nat.{ℕ, _+_, _*_, _≤_, _<_}
+use Prim.Native.Nat.{ℕ, _+_, _≤_, _<_}
 use native.Mathlib.Nat.{le-refl, le-trans}
 use native.Mathlib.Omega.{arith}
 use mathlib.Core.Path.{_≡_, refl}
 use mathlib.Core.Bool.{Bool, true, false, cond}
 use mathlib.Core.List.{List}
+use borrow.Author.Tests.{ne-eqb}
 use lib.Dec.{eqb, lit<, lit≤}
 use lib.IntN.{ℤ, pos, natAbs, _-ℤ_, _*ℤ_}
-use lib.ListN.{length}
+use lib.ListN.{length, getD}
 use Rattle.integers.proofs.Linear.{zarith}
 use Rattle.integers.proofs.Tactic.{zi, zo}
 use Rattle.integers.proofs.Absolute.{abs-sub}
@@ -22,10 +23,13 @@ use Rattle.sheet.specs.declared.Outcome.the-variants.{Accepted}
 use Rattle.sheet.specs.Sheet.{readSheet, contentOf}
 use Rattle.sheet.proofs.Accepted.{valid, counts}
 use Rattle.figures.specs.Balance.{zoneLoad, output}
-use Rattle.figures.specs.Flow.{factor, parFactor, outputTerm, weightedOutput, loadTerm, weightedLoad, netSchedule, scheduleTerm, scheduleFlow, controlTerm, control}
+use Rattle.figures.specs.Flow.{factor, parFactor, outputTerm, weightedOutput, loadTerm, netSchedule, scheduleTerm, scheduleFlow, controlTerm, control}
+use Rattle.figures.proofs.Factors.{zone-factor-within}
 use Rattle.figures.proofs.Numbers.{cond-within, times-within}
 use Rattle.figures.proofs.Ranges.{output-within, zone-load-within}
-use Rattle.weighted_sums.specs.inner.Weighted.{OnTarget, gapIn, powerOf, weightedTerm, members, weightedSum}
+use Rattle.zone_sums.specs.inner.Ledger.{figureAt}
+use Rattle.zone_sums.proofs.Cells.{cell-at}
+use Rattle.weighted_sums.specs.inner.Weighted.{Lent, OnTarget, gapIn, powerOf, weightedTerm, members, weightedSum}
 
 -- the class is asked before or after the factor
 gap-times : (b : Bool) (x f : ℤ) → cond b (x *ℤ pos 10) (pos 0) *ℤ f ≡ cond b (x *ℤ f *ℤ pos 10) (pos 0)
@@ -37,11 +41,6 @@ module _ (c : Content) (class target : ℕ) where
   pub outputs-are : weightedSum c unitSubject class target ≡ weightedOutput c target
   unfolding weightedSum members howMany weightedTerm powerOf weightedOutput outputTerm
   outputs-are = refl
-
-  -- N
-  pub loads-are : weightedSum c zoneSubject class target ≡ weightedLoad c target
-  unfolding weightedSum members howMany weightedTerm powerOf weightedLoad loadTerm
-  loads-are = refl
 
   pub schedules-are : weightedSum c pointSubject class target ≡ scheduleFlow c class target
   unfolding weightedSum members howMany weightedTerm powerOf gapIn scheduleFlow scheduleTerm netSchedule
@@ -55,16 +54,15 @@ gap-within : (of class : ℕ) (x y : ℤ) → natAbs x ≤ 200000 → natAbs y �
 unfolding gapIn
 gap-within of class x y h k = cond-within (eqb of class) ((x -ℤ y) *ℤ pos 10) (times-within (x -ℤ y) (pos 10) {a = 400000} (omega (arith, abs-sub x y)) (le-refl 10))
 
-power-within : {c : Content} → Valid c → (subject class i : ℕ) → i < members c subject → natAbs (powerOf c subject class i) ≤ 10400000
+power-within : {c : Content} → Valid c → (subject class i : ℕ) → (subject ≡ 2 → ⊥) → i < members c subject → natAbs (powerOf c subject class i) ≤ 4000000
 unfolding members howMany powerOf
-power-within {c} v subject class i = by (eqb subject 1) (eqb subject 2) (eqb subject 3)
+power-within {c} v subject class i o = by (eqb subject 1) (eqb subject 3)
   where
-    by : (p q r : Bool) → i < cond p (length (c .units)) (cond q (length (c .zones)) (cond r (length (c .points)) (length (c .pars)))) →
-        natAbs (cond p (output c i) (cond q (zoneLoad c i) (cond r (gapIn (point c i .sort) class (pos (point c i .import)) (pos (point c i .export))) (gapIn (par c i .class) class (par c i .actual) (par c i .target))))) ≤ 10400000
-    by true q r l = le-trans (output-within v i l) (lit≤ tt)
-    by false true r l = zone-load-within v i l
-    by false false true l = let p = v .point-fits i l in le-trans (gap-within (point c i .sort) class (pos (point c i .import)) (pos (point c i .export)) (p .import) (p .export)) (lit≤ tt)
-    by false false false l = let p = v .par-fits i l in le-trans (gap-within (par c i .class) class (par c i .actual) (par c i .target) (p .actual) (p .target)) (lit≤ tt)
+    by : (p r : Bool) → i < cond p (length (c .units)) (cond (eqb subject 2) (length (c .zones)) (cond r (length (c .points)) (length (c .pars)))) →
+        natAbs (cond p (output c i) (cond r (gapIn (point c i .sort) class (pos (point c i .import)) (pos (point c i .export))) (gapIn (par c i .class) class (par c i .actual) (par c i .target)))) ≤ 4000000
+    by true r l = le-trans (output-within v i l) (lit≤ tt)
+    by false true l = let k = rw (ne-eqb subject 2 o) at l in let p = v .point-fits i k in gap-within (point c i .sort) class (pos (point c i .import)) (pos (point c i .export)) (p .import) (p .export)
+    by false false l = let k = rw (ne-eqb subject 2 o) at l in let p = v .par-fits i k in gap-within (par c i .class) class (par c i .actual) (par c i .target) (p .actual) (p .target)
 
 -- what the layout of an accepted sheet counts is what its content has
 module _ (s : List ℕ) (l : Layout) (e : readSheet s ≡ Accepted l) where
@@ -89,17 +87,40 @@ module _ (s : List ℕ) (l : Layout) (e : readSheet s ≡ Accepted l) where
       Asked (l .zones) (l .units) (l .points) (l .pars) target subject i
   asked o i h = record { known = o .known; low = o .low; high = o .high; par = o .par; index = h }
 
-  module _ (subject class target i : ℕ) (a : Asked (l .zones) (l .units) (l .points) (l .pars) target subject i) where
+  module _ (subject class target i : ℕ) (o : subject ≡ zoneSubject → ⊥) (a : Asked (l .zones) (l .units) (l .points) (l .pars) target subject i) where
     factor-within : natAbs (factorFor (contentOf s .factors) target subject (i + 1)) ≤ 10000
     factor-within = valid s l e .factor-fits target subject i (rw (counts s l e .zones, counts s l e .units, counts s l e .points, counts s l e .pars) at a)
 
     -- p is the power, f the factor, as the calls returned them
     pub term : (p f : ℤ) → p ≡ powerOf (contentOf s) subject class i → f ≡ factorFor (contentOf s .factors) target subject (i + 1) →
-        Op (rd p *ℤ rd f) (weightedTerm (contentOf s) subject class target i) 104000000000
+        Op (rd p *ℤ rd f) (weightedTerm (contentOf s) subject class target i) 40000000000
     unfolding weightedTerm factor
     term p f ep ef =
-        mul (num-is p _ 10400000 ep (power-within (valid s l e) subject class i (rw (members-are subject) at (a .index))) (lit< tt))
+        mul (num-is p _ 4000000 ep (power-within (valid s l e) subject class i o (rw (members-are subject) at (a .index))) (lit< tt))
         (num-is f _ 10000 ef factor-within (lit< tt)) (lit< tt)
 
-    pub term-within : natAbs (weightedTerm (contentOf s) subject class target i) ≤ 104000000000
+    pub term-within : natAbs (weightedTerm (contentOf s) subject class target i) ≤ 40000000000
     term-within = term _ _ refl refl .num .abs
+
+-- a zone's term, from its load as it is read and its factor, f, as the call returned it
+module _ {s : List ℕ} {l : Layout} {array : List ℤ} (g : Lent s l array) (target z : ℕ) (k : target ≤ l .pars) (h : z < l .zones) where
+  in-content : z < length (contentOf s .zones)
+  in-content = omega (arith, counts s l (g .accepted) .zones)
+
+  pub zone-asked : Asked (l .zones) (l .units) (l .points) (l .pars) target zoneSubject z
+  unfolding howMany
+  zone-asked = record { known = k; low = lit≤ tt; high = lit≤ tt; par = λ e. absurd (omega (arith, e)); index = h }
+
+  load-read : getD array z (pos 0) ≡ zoneLoad (contentOf s) z
+  unfolding figureAt
+  load-read = rw (g .loads) (cell-at (zoneLoad (contentOf s)) (length (contentOf s .zones)) z (valid s l (g .accepted) .zones-most) in-content)
+
+  pub load-term : (f : ℤ) → f ≡ factorFor (contentOf s .factors) target zoneSubject (z + 1) → Op (rd (getD array z (pos 0)) *ℤ rd f) (loadTerm (contentOf s) target z) 104000000000
+  unfolding loadTerm factor
+  load-term f ef =
+      let v = valid s l (g .accepted) in
+      mul (num-is (getD array z (pos 0)) (zoneLoad (contentOf s) z) 10400000 load-read (zone-load-within v z in-content) (lit< tt))
+      (num-is f _ 10000 ef (zone-factor-within v (omega (arith, counts s l (g .accepted) .pars)) z in-content) (lit< tt)) (lit< tt)
+
+  pub load-term-within : natAbs (loadTerm (contentOf s) target z) ≤ 104000000000
+  load-term-within = load-term _ refl .num .abs

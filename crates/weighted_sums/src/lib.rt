@@ -1,21 +1,21 @@
-// The weighted sums of steps 3 to 5: what each record of a subject brings, times its factor on a target.
+// The weighted sums of steps 3 to 5: what each record brings, times its factor on a target.
+// What a unit, point or PAR brings stands in its record; a zone brings its zone load, which is lent.
 ghost use mathlib.Core.Path.{_≡_};
 ghost use Prim.Native.Nat.{_<_, _≤_};
 ghost use lib.IntN.{natAbs};
 ghost use Rattle.due_factors.specs.Due.{Asked, howMany};
-ghost use Rattle.records.specs.Codes.{unitSubject, pointSubject, parSubject};
+ghost use Rattle.records.specs.Codes.{unitSubject, zoneSubject, pointSubject, parSubject};
 ghost use Rattle.sheet.specs.Sheet.{readSheet, contentOf};
 ghost use Rattle.sheet.specs.declared.Outcome.the-variants.{Accepted};
-ghost use Rattle.weighted_sums.specs.inner.Weighted.{Given, OnTarget, gapIn, powerOf, weightedTerm, weightedSum};
+ghost use Rattle.figures.specs.Flow.{loadTerm, weightedLoad};
+ghost use Rattle.weighted_sums.specs.inner.Weighted.{Lent, OnTarget, gapIn, powerOf, weightedTerm, weightedSum};
 
 fn how_many(l: layout::Layout, subject: u8) -> usize
+    requires { ⌜ (subject ≡ zoneSubject → ⊥) ⌝ }
     ensures { λ r. ⌜ r ≡ howMany (l .zones) (l .units) (l .points) (l .pars) subject ⌝ }
 {
     if subject == records::UNIT {
         return l.units;
-    }
-    if subject == records::ZONE {
-        return l.zones;
     }
     if subject == records::POINT {
         return l.points;
@@ -58,23 +58,12 @@ fn par_power(s: &[u8], l: layout::Layout, class: u8, i: usize) -> i64
     gap_in(p.class, class, p.actual as i64, p.target as i64)
 }
 
-fn power_of<'a>(
-    s: &[u8],
-    l: layout::Layout,
-    plus: &'a [u64; 33],
-    minus: &'a [u64; 33],
-    subject: u8,
-    class: u8,
-    i: usize,
-) -> i64
-    requires { ⌜ Given (now s) l (now plus) (now minus) × (i < howMany (l .zones) (l .units) (l .points) (l .pars) subject) ⌝ }
+fn power_of(s: &[u8], l: layout::Layout, subject: u8, class: u8, i: usize) -> i64
+    requires { ⌜ (readSheet (now s) ≡ Accepted l) × (subject ≡ zoneSubject → ⊥) × (i < howMany (l .zones) (l .units) (l .points) (l .pars) subject) ⌝ }
     ensures { λ r. ⌜ r ≡ powerOf (contentOf (now (s .entry))) subject class i ⌝ }
 {
     if subject == records::UNIT {
         return unit_power(s, l, class, i);
-    }
-    if subject == records::ZONE {
-        return balance::net_at(plus, minus, i);
     }
     if subject == records::POINT {
         return point_power(s, l, class, i);
@@ -82,43 +71,61 @@ fn power_of<'a>(
     par_power(s, l, class, i)
 }
 
-fn term_of<'a>(
-    s: &[u8],
-    l: layout::Layout,
-    plus: &'a [u64; 33],
-    minus: &'a [u64; 33],
-    subject: u8,
-    class: u8,
-    target: usize,
-    i: usize,
-) -> i64
-    requires { ⌜ Given (now s) l (now plus) (now minus) × Asked (l .zones) (l .units) (l .points) (l .pars) target subject i ⌝ }
+fn term_of(s: &[u8], l: layout::Layout, subject: u8, class: u8, target: usize, i: usize) -> i64
+    requires { ⌜ (readSheet (now s) ≡ Accepted l) × (subject ≡ zoneSubject → ⊥) × Asked (l .zones) (l .units) (l .points) (l .pars) target subject i ⌝ }
     ensures { λ r. ⌜ r ≡ weightedTerm (contentOf (now (s .entry))) subject class target i ⌝ }
 {
-    let power = power_of(s, l, plus, minus, subject, class, i);
+    let power = power_of(s, l, subject, class, i);
     let factor = sheet_records::factor_at(s, l, target, subject, i);
     power * factor
 }
 
-// Over all records of a subject; where these are points or PARs, over those of the class.
-pub fn weighted<'a>(
-    s: &[u8],
-    l: layout::Layout,
-    plus: &'a [u64; 33],
-    minus: &'a [u64; 33],
-    subject: u8,
-    class: u8,
-    target: usize,
-) -> i64
-    requires { ⌜ Given (now s) l (now plus) (now minus) × OnTarget (l .pars) target subject ⌝ }
+// Over all records of a subject other than zones; where these are points or PARs, over those of the class.
+pub fn weighted(s: &[u8], l: layout::Layout, subject: u8, class: u8, target: usize) -> i64
+    requires { ⌜ (readSheet (now s) ≡ Accepted l) × OnTarget (l .pars) target subject ⌝ }
     ensures { λ r. ⌜ r ≡ weightedSum (contentOf (now (s .entry))) subject class target ⌝ }
 {
     let n = how_many(l, subject);
     let mut sum: i64 = 0;
     let mut i = 0;
     while i < n {
-        sum += term_of(s, l, plus, minus, subject, class, target, i);
+        sum += term_of(s, l, subject, class, target, i);
         i += 1;
+    }
+    sum
+}
+
+fn load_term<'a>(
+    s: &[u8],
+    l: layout::Layout,
+    zone_loads: &'a [i64; 32],
+    target: usize,
+    z: usize,
+) -> i64
+    requires { ⌜ Lent (now s) l (now «zone_loads») × (target ≤ l .pars) × (z < l .zones) ⌝ }
+    ensures { λ r. ⌜ r ≡ loadTerm (contentOf (now (s .entry))) target z ⌝ }
+{
+    let load = zone_loads[z];
+    let factor = sheet_records::factor_at(s, l, target, records::ZONE, z);
+    load * factor
+}
+
+// Over all zones: document 01's N.
+pub fn weighted_load<'a>(
+    s: &[u8],
+    l: layout::Layout,
+    zone_loads: &'a [i64; 32],
+    target: usize,
+) -> i64
+    requires { ⌜ Lent (now s) l (now «zone_loads») × (target ≤ l .pars) ⌝ }
+    ensures { λ r. ⌜ r ≡ weightedLoad (contentOf (now (s .entry))) target ⌝ }
+{
+    let n = l.zones;
+    let mut sum: i64 = 0;
+    let mut z = 0;
+    while z < n {
+        sum += load_term(s, l, zone_loads, target, z);
+        z += 1;
     }
     sum
 }

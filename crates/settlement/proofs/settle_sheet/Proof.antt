@@ -1,5 +1,7 @@
 -- `settle_sheet` meets its contract.
-use mathlib.Core.Path.{_≡_, refl, sym, ap, _∙_}
+use Prim.Native.Nat.{_≤_}
+use mathlib.Core.Path.{_≡_, sym, ap, subst, _∙_}
+use lib.IntN.{ℤ, natAbs}
 use denote.Ref.{now}
 use mir.Facts.{toZ-ofZ}
 use mir.Syntax.{w64}
@@ -44,7 +46,7 @@ settle-balance-requires c κs =
     let f = c .before .before .before in
     let s = f .before .before .before .before .before .before in
     let e = sym (found-is f) ∙ c .before .e .given .1 in
-    (s .pre, rw (toZ-ofZ (e-fits c)) (value-within _ _ _ e))
+    (s .pre, subst (λ (z : ℤ). natAbs z ≤ 100000) (sym (toZ-ofZ (e-fits c))) (value-within _ _ _ e))
 
 returns : tie.Need-returns
 unfolding afterSheet byList

@@ -1,6 +1,6 @@
 -- An interval put together from its head, flow and payment.
 use Rattle.records.specs.declared.Head.{Head}
-use Rattle.flow.specs.declared.Flow.{Flow}
+use Rattle.market_flow.specs.declared.Flow.{Flow}
 use Rattle.payment.specs.declared.Payment.{Payment}
 use Rattle.settlement.specs.declared.Interval.{Interval}
 

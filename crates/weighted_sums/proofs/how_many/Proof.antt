@@ -10,15 +10,11 @@ returns c = rw (eq-eqb _ _ (c .if1 .taken))
 
 returns-2 : tie.Need-returns-2
 unfolding howMany
-returns-2 c = rw (ne-eqb _ _ (c .before .if1 .left), eq-eqb _ _ (c .if2 .taken))
+returns-2 c = rw (ne-eqb _ _ (c .before .if1 .left), ne-eqb _ _ (c .before .before .pre), eq-eqb _ _ (c .if2 .taken))
 
 returns-3 : tie.Need-returns-3
 unfolding howMany
-returns-3 c = rw (ne-eqb _ _ (c .before .before .if1 .left), ne-eqb _ _ (c .before .if2 .left), eq-eqb _ _ (c .if3 .taken))
-
-returns-4 : tie.Need-returns-4
-unfolding howMany
-returns-4 c = rw (ne-eqb _ _ (c .before .before .if1 .left), ne-eqb _ _ (c .before .if2 .left), ne-eqb _ _ (c .if3 .left))
+returns-3 c = rw (ne-eqb _ _ (c .before .if1 .left), ne-eqb _ _ (c .before .before .pre), ne-eqb _ _ (c .if2 .left))
 
 pub how-many-spec : {M : Type 1} → statement M
-how-many-spec = tie.close (tie.spec returns returns-2 returns-3 returns-4)
+how-many-spec = tie.close (tie.spec returns returns-2 returns-3)

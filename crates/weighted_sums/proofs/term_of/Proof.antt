@@ -13,12 +13,12 @@ factor-at-requires c κs = search needs
 mul-result : tie.Need-mul-result
 mul-result c =
     let p = c .before .before .before in
-    term _ _ (p .pre .0 .accepted) (p .args .subject) (p .args .class) (p .args .target) (p .args .i) (p .pre .1) _ _ (c .before .power-of .ensures) (c .factor-at .ensures) .fits
+    term _ _ (p .pre .0) (p .args .subject) (p .args .class) (p .args .target) (p .args .i) (p .pre .1) (p .pre .2) _ _ (c .before .power-of .ensures) (c .factor-at .ensures) .fits
 
 returns : tie.Need-returns
 returns c =
     let p = c .before .before .before in
-    term _ _ (p .pre .0 .accepted) (p .args .subject) (p .args .class) (p .args .target) (p .args .i) (p .pre .1) _ _ (c .before .power-of .ensures) (c .factor-at .ensures) .num .is
+    term _ _ (p .pre .0) (p .args .subject) (p .args .class) (p .args .target) (p .args .i) (p .pre .1) (p .pre .2) _ _ (c .before .power-of .ensures) (c .factor-at .ensures) .num .is
 
 pub term-of-spec : {M : Type 1} → statement M
 term-of-spec = tie.close (tie.spec power-of-requires factor-at-requires mul-result returns)

@@ -17,13 +17,13 @@ use Rattle.weighted_sums.proofs.weighted.Statement.{statement}
 use Rattle.weighted_sums.proofs.weighted.Tie as tie
 
 abbrev Inv-loop : tie.InvT-loop
-Inv-loop s l plus minus subject class target n sum₀ i₀ sum i = (i ≤ n) × (toZ w64 sum ≡ sumTo (weightedTerm (contentOf s) subject class target) i)
+Inv-loop s l subject class target n sum₀ i₀ sum i = (i ≤ n) × (toZ w64 sum ≡ sumTo (weightedTerm (contentOf s) subject class target) i)
 
 abbrev μ-loop : tie.MeasureT-loop
-μ-loop s l plus minus subject class target n sum₀ i₀ sum i = n - i
+μ-loop s l subject class target n sum₀ i₀ sum i = n - i
 
 how-many-requires : tie.Need-how-many-requires Inv-loop μ-loop
-how-many-requires c κs = search needs
+how-many-requires c κs = c .before .pre .1 .other
 
 loop-holds : tie.Need-loop-holds Inv-loop μ-loop
 loop-holds c = (omega arith, sym (sum-zero _))
@@ -32,24 +32,24 @@ term-of-requires : tie.Need-term-of-requires Inv-loop μ-loop
 term-of-requires c κs =
     let h = c .before .before in
     let p = h .before .before .pre in
-    (p .0, asked _ _ (p .0 .accepted) (p .1) _ (rw (h .how-many .ensures) at (c .loop-test .taken)))
+    (p .0, p .1 .other, asked _ _ (p .0) (p .1) _ (rw (h .how-many .ensures) at (c .loop-test .taken)))
 
 few : (c : tie.After-how-many Inv-loop μ-loop) → c .how-many .result ≤ 256
 few c =
     let p = c .before .before in
-    omega (arith, c .how-many .ensures, members-are _ _ (p .pre .0 .accepted) (p .args .subject), members-most _ _ (p .pre .0 .accepted) (p .args .subject))
+    omega (arith, c .how-many .ensures, members-are _ _ (p .pre .0) (p .args .subject), members-most _ _ (p .pre .0) (p .args .subject))
 
 step : (c : tie.After-term-of Inv-loop μ-loop) →
     let t = c .before .before in
     let a = t .before .before .before .args in
-    Op (toZ w64 (t .loop .sum) +ℤ rd (c .term-of .result)) (sumTo (weightedTerm (contentOf (now (a .s))) (a .subject) (a .class) (a .target)) (t .loop .i + 1)) ((t .loop .i + 1) * 104000000000)
+    Op (toZ w64 (t .loop .sum) +ℤ rd (c .term-of .result)) (sumTo (weightedTerm (contentOf (now (a .s))) (a .subject) (a .class) (a .target)) (t .loop .i + 1)) ((t .loop .i + 1) * 40000000000)
 step c =
     let t = c .before .before in
     let h = t .before in
     let p = h .before .before in
     let a = p .args in
-    next (weightedTerm (contentOf (now (a .s))) (a .subject) (a .class) (a .target)) 104000000000 (h .how-many .result) (t .loop .i)
-    (λ k l. term-within _ _ (p .pre .0 .accepted) (a .subject) (a .class) (a .target) k (asked _ _ (p .pre .0 .accepted) (p .pre .1) k (rw (h .how-many .ensures) at l)))
+    next (weightedTerm (contentOf (now (a .s))) (a .subject) (a .class) (a .target)) 40000000000 (h .how-many .result) (t .loop .i)
+    (λ k l. term-within _ _ (p .pre .0) (a .subject) (a .class) (a .target) k (p .pre .1 .other) (asked _ _ (p .pre .0) (p .pre .1) k (rw (h .how-many .ensures) at l)))
     (omega (arith, few h)) (c .before .loop-test .taken) (t .loop .inv .1) (c .term-of .ensures)
 
 add-sum : tie.Need-add-sum Inv-loop μ-loop
@@ -70,7 +70,7 @@ returns c =
     let h = c .before .before in
     let p = h .before .before in
     let e : c .before .loop .i ≡ h .how-many .result = omega arith in
-    c .before .loop .inv .1 ∙ ap (sumTo _) (e ∙ h .how-many .ensures ∙ members-are _ _ (p .pre .0 .accepted) (p .args .subject))
+    c .before .loop .inv .1 ∙ ap (sumTo _) (e ∙ h .how-many .ensures ∙ members-are _ _ (p .pre .0) (p .args .subject))
 
 pub weighted-spec : {M : Type 1} → statement M
 weighted-spec =

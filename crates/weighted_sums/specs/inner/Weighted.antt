@@ -1,5 +1,5 @@
--- The weighted sums of steps 3 to 5 in one form: what each record of a subject brings, times its factor on a target.
--- Subjects are a factor's. The class asked is a point's type or a PAR's class; units and zones have none.
+-- The weighted sums of steps 3 to 5 in one form: what each unit, point or PAR brings, times its factor on a target. N, over the zones, has its own in `figures`.
+-- Subjects are a factor's. The class asked is a point's type or a PAR's class; units have none.
 use Prim.Native.Nat.{ℕ, _≤_}
 use mathlib.Core.Path.{_≡_}
 use mathlib.Core.Bool.{cond}
@@ -14,33 +14,33 @@ use Rattle.records.specs.Codes.{unitSubject, zoneSubject, pointSubject, parSubj
 use Rattle.records.specs.Content.{Content, point, par}
 use Rattle.sheet.specs.declared.Outcome.the-variants.{Accepted}
 use Rattle.sheet.specs.Sheet.{readSheet, contentOf}
-use Rattle.figures.specs.Balance.{zoneLoad, output}
+use Rattle.figures.specs.Balance.{output}
 use Rattle.figures.specs.Flow.{factor}
-use Rattle.balance.specs.inner.Ledger.{ZoneLoads}
+use Rattle.zone_sums.specs.ByZone.{zoneLoads}
 
--- an accepted sheet with its layout, and two arrays from which its zone loads are read
-pub record Given (s : List ℕ) (l : Layout) (plus minus : List ℕ) : Type 0 where
+-- an accepted sheet with its layout, and its zone loads
+pub record Lent (s : List ℕ) (l : Layout) (array : List ℤ) : Type 0 where
   pub accepted : readSheet s ≡ Accepted l
-  pub loads : ZoneLoads (contentOf s) plus minus
+  pub loads : array ≡ zoneLoads (contentOf s)
 
--- a target, and a subject whose factors on it are due
+-- a target, and a subject other than zones whose factors on it are due
 pub record OnTarget (pars target subject : ℕ) : Type 0 where
   pub known : target ≤ pars
   pub low : 1 ≤ subject
   pub high : subject ≤ 4
+  pub other : subject ≡ zoneSubject → ⊥
   pub par : subject ≡ parSubject → target ≡ 0
 
 -- ten times the difference of a record's two powers, if the record is of the class asked
 unfoldable pub gapIn : ℕ → ℕ → ℤ → ℤ → ℤ
 gapIn of class plus minus = cond (eqb of class) ((plus -ℤ minus) *ℤ pos 10) (pos 0)
 
--- a unit's output, a zone's load, ten times a point's net schedule, ten times what a PAR's actual flow has more than its target
+-- a unit's output, ten times a point's net schedule, ten times what a PAR's actual flow has more than its target
 unfoldable pub powerOf : Content → ℕ → ℕ → ℕ → ℤ
 powerOf c subject class i =
     cond (eqb subject unitSubject) (output c i)
-    (cond (eqb subject zoneSubject) (zoneLoad c i)
     (cond (eqb subject pointSubject) (gapIn (point c i .sort) class (pos (point c i .import)) (pos (point c i .export)))
-    (gapIn (par c i .class) class (par c i .actual) (par c i .target))))
+    (gapIn (par c i .class) class (par c i .actual) (par c i .target)))
 
 unfoldable pub weightedTerm : Content → ℕ → ℕ → ℕ → ℕ → ℤ
 weightedTerm c subject class target i = powerOf c subject class i *ℤ factor c target subject i

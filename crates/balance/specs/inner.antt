@@ -1,2 +1,0 @@
-pub mod Ledger
-pub mod Balance

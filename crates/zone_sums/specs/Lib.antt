@@ -1,0 +1,2 @@
+pub mod ByZone
+pub mod inner
