@@ -199,7 +199,7 @@ macro_rules! reference {
             fn judge(&self, sheet: &[u8], rounded: &$crate::sides::Rounded) -> Result<(), String> {
                 use $second::units::{Amount, Power, Remainder, Watts};
                 let sheet = $second::reader::read(sheet).map_err(|it| it.refusal.to_string())?;
-                let gtl = |[flow, first, second]: [i64; 3]| $second::flow::GenerationToLoad {
+                let gtl = |[flow, first, second]: [i64; 3]| $second::exact::RoundedFlow {
                     flow: Watts(flow),
                     first_remainder: Remainder(first),
                     second_remainder: Remainder(second),

@@ -1,15 +1,22 @@
 //! The exact flow and amount: document 01's steps with no rounding anywhere, from
 //! the sheet's content alone, and the accuracy that is demanded of rounded figures.
 
-use crate::flow::GenerationToLoad;
 use crate::fraction::Fraction;
 use crate::sheet::{Class, FLOWGATE, Place, Rto, Sheet, Subject, Target};
-use crate::units::{AMOUNT_DIVISOR, Amount, Power, Watts};
+use crate::units::{AMOUNT_DIVISOR, Amount, Power, Remainder, Watts};
+
+/// A rounded generation-to-load flow with what its quotients left.
+#[derive(Clone, Copy, Debug, PartialEq, Eq)]
+pub struct RoundedFlow {
+    pub flow: Watts,
+    pub first_remainder: Remainder,
+    pub second_remainder: Remainder,
+}
 
 /// Rounded figures that are to be judged.
 #[derive(Clone, Debug)]
 pub struct Rounded {
-    pub targets: Vec<(Target, GenerationToLoad)>,
+    pub targets: Vec<(Target, RoundedFlow)>,
     pub market: Watts,
     pub amount: Amount,
 }
@@ -167,7 +174,7 @@ pub fn judge_hour(intervals: &[(Sheet, Power)], rounded: Amount) -> Result<(), S
 
 /// The generation-to-load flow is the exact one exactly when net load × second
 /// remainder = final generation × first remainder, and never more than 1 W off.
-fn judge_target(sheet: &Sheet, target: Target, rounded: &GenerationToLoad) -> Result<(), String> {
+fn judge_target(sheet: &Sheet, target: Target, rounded: &RoundedFlow) -> Result<(), String> {
     let totals = totals(sheet);
     let exact = generation_to_load(sheet, target);
     let what = format!("generation-to-load flow of target {target}");

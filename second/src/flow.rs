@@ -1,37 +1,8 @@
-//! From balance to market flow: steps 3 to 6.
+//! From the generation-to-load flow to the market flow: steps 4 to 6.
 
-use crate::balance::Balance;
+use crate::generation_to_load::{self, Balance, GenerationToLoad};
 use crate::sheet::{Class, FLOWGATE, Rto, Sheet, Subject, Target};
-use crate::units::{FineWatts, Remainder, Watts};
-
-#[derive(Clone, Copy, Debug, PartialEq, Eq)]
-pub struct GenerationToLoad {
-    pub flow: Watts,
-    pub first_remainder: Remainder,
-    pub second_remainder: Remainder,
-}
-
-/// Step 3. Weighted by factors, outputs are 10 × A and loads 10 × N of document 01.
-pub fn generation_to_load(sheet: &Sheet, balance: &Balance, target: Target) -> GenerationToLoad {
-    let by_units: Watts = sheet
-        .factors(target, Subject::Unit)
-        .zip(&sheet.units)
-        .map(|(factor, unit)| unit.output * factor)
-        .sum();
-    let by_loads: Watts = sheet
-        .factors(target, Subject::Zone)
-        .zip(balance.zone_loads)
-        .map(|(factor, zone_load)| zone_load * factor)
-        .sum();
-    let (to_load, first_remainder) = by_loads.share(balance.outputs, balance.net_load);
-    let (flow, second_remainder) =
-        (by_units - to_load).share(balance.final_generation, balance.net_generation);
-    GenerationToLoad {
-        flow,
-        first_remainder,
-        second_remainder,
-    }
-}
+use crate::units::{FineWatts, TensOfWatts, Watts};
 
 /// Step 4: parallel flow over the non-common points, shadow flow over the common.
 pub fn scheduled_flow(sheet: &Sheet, target: Target, class: Class) -> Watts {
@@ -40,7 +11,8 @@ pub fn scheduled_flow(sheet: &Sheet, target: Target, class: Class) -> Watts {
         .zip(&sheet.points)
         .filter(|(_, point)| point.class == class)
         .map(|(factor, point)| (point.import - point.export) * factor)
-        .sum()
+        .sum::<TensOfWatts>()
+        .watts()
 }
 
 /// What the PARs of a class carry away, before it is rounded.
@@ -49,7 +21,7 @@ pub fn carried(sheet: &Sheet, balance: &Balance, class: Class) -> FineWatts {
     let mut carried = FineWatts::ZERO;
     for ((par, factor), target) in sheet.pars.iter().zip(factors).zip(1..) {
         if par.class == class {
-            let flow = generation_to_load(sheet, balance, target).flow
+            let flow = generation_to_load::flow(sheet, balance, target).flow
                 + scheduled_flow(sheet, target, Class::NonCommon);
             carried += flow * factor;
         }
@@ -63,7 +35,8 @@ fn control(sheet: &Sheet, class: Class) -> Watts {
         .zip(&sheet.pars)
         .filter(|(_, par)| par.class == class)
         .map(|(factor, par)| (par.actual - par.target) * factor)
-        .sum()
+        .sum::<TensOfWatts>()
+        .watts()
 }
 
 /// Step 5: what the PARs of a class carry away, less what they control.
@@ -84,7 +57,7 @@ pub struct Flow {
 
 /// Step 6.
 pub fn market_flow(sheet: &Sheet, balance: &Balance) -> Flow {
-    let generation_to_load = generation_to_load(sheet, balance, FLOWGATE);
+    let generation_to_load = generation_to_load::flow(sheet, balance, FLOWGATE);
     let parallel = scheduled_flow(sheet, FLOWGATE, Class::NonCommon);
     let shadow = scheduled_flow(sheet, FLOWGATE, Class::Common);
     let common_redirect = redirect(sheet, balance, Class::Common);

@@ -2,7 +2,6 @@
 //! 02 alone. The proved programs are compared with it, input by input, and timed
 //! beside it.
 
-pub mod balance;
 pub mod bigint;
 pub mod content;
 pub mod content_rows;
@@ -12,6 +11,7 @@ pub mod entitlement;
 pub mod exact;
 pub mod flow;
 pub mod fraction;
+pub mod generation_to_load;
 pub mod hour;
 pub mod layout;
 pub mod listing;

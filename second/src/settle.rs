@@ -1,8 +1,8 @@
 //! One interval's statement: rows 1 to 22.
 
-use crate::balance::balance;
 use crate::entitlement::entitlement;
 use crate::flow::{Flow, market_flow};
+use crate::generation_to_load::Balance;
 use crate::names::Name;
 use crate::payment::{Payment, payment};
 use crate::reader::read;
@@ -33,7 +33,9 @@ pub fn settle(sheet: &[u8], list: &[u8]) -> Result<Statement, Refusal> {
 pub fn interval(sheet: &[u8], list: &[u8]) -> Result<Interval, Refusal> {
     let sheet = read(sheet)?;
     let entitlement = entitlement(list, sheet.head.name)?.watts();
-    let flow = market_flow(&sheet, &balance(&sheet)?);
+    let balance = Balance::of(&sheet);
+    balance.rows()?;
+    let flow = market_flow(&sheet, &balance);
     let statement = Statement {
         name: sheet.head.name,
         flow,

@@ -78,6 +78,10 @@ quantity!(
     Factor
 );
 quantity!(
+    /// Powers times factors: a tenth of a MW by a ten-thousandth is 10 W.
+    TensOfWatts
+);
+quantity!(
     /// Flows.
     Watts
 );
@@ -129,12 +133,17 @@ impl Power {
     }
 }
 
-/// A tenth of a MW taken by a ten-thousandth is 10 W.
 impl Mul<Factor> for Power {
-    type Output = Watts;
+    type Output = TensOfWatts;
 
-    fn mul(self, factor: Factor) -> Watts {
-        Watts(self.0 * factor.0 * (WATTS_PER_POWER / WHOLE_FACTOR))
+    fn mul(self, factor: Factor) -> TensOfWatts {
+        TensOfWatts(self.0 * factor.0)
+    }
+}
+
+impl TensOfWatts {
+    pub fn watts(self) -> Watts {
+        Watts(self.0 * (WATTS_PER_POWER / WHOLE_FACTOR))
     }
 }
 

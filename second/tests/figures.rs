@@ -4,8 +4,7 @@ mod common;
 
 use common::Small;
 use second::draft;
-use second::exact::{self, Rounded};
-use second::flow::GenerationToLoad;
+use second::exact::{self, Rounded, RoundedFlow};
 use second::fraction::Fraction;
 use second::reader::read;
 use second::sheet::FLOWGATE;
@@ -35,12 +34,17 @@ fn amount(difference: i64, price: i64, seconds: i64) -> i64 {
     Watts(difference).cost(Price(price), Seconds(seconds)).0
 }
 
-fn gtl(flow: i64, first_remainder: i64, second_remainder: i64) -> GenerationToLoad {
-    GenerationToLoad {
+fn gtl(flow: i64, first_remainder: i64, second_remainder: i64) -> RoundedFlow {
+    RoundedFlow {
         flow: Watts(flow),
         first_remainder: Remainder(first_remainder),
         second_remainder: Remainder(second_remainder),
     }
+}
+
+fn gtl_of(statement: &Statement) -> RoundedFlow {
+    let of = statement.flow.generation_to_load;
+    gtl(of.flow.0, of.first_remainder.0, of.second_remainder.0)
 }
 
 #[test]
@@ -102,7 +106,7 @@ fn flow_of_seven_is_not_exact() {
         points: vec![],
     };
     let statement = settled(&small, 0).unwrap();
-    assert_eq!(statement.flow.generation_to_load, gtl(7, 1, 0));
+    assert_eq!(gtl_of(&statement), gtl(7, 1, 0));
     let bytes = small.bytes();
     let sheet = read(&bytes).unwrap();
     assert_eq!(
@@ -119,7 +123,7 @@ fn flow_of_minus_ten_is_exact_with_remainders() {
         points: vec![(1, 0, 0, 1, 0)],
     };
     let statement = settled(&small, 0).unwrap();
-    assert_eq!(statement.flow.generation_to_load, gtl(-10, 2, 2));
+    assert_eq!(gtl_of(&statement), gtl(-10, 2, 2));
     let bytes = small.bytes();
     let sheet = read(&bytes).unwrap();
     assert_eq!(
@@ -173,7 +177,7 @@ fn final_generation_may_be_zero() {
         points: vec![(1, 0, 0, export, 0)],
     };
     let statement = settled(&with_export(10), 0).unwrap();
-    let flow = statement.flow.generation_to_load;
+    let flow = gtl_of(&statement);
     assert_eq!(flow, gtl(0, flow.first_remainder.0, 0));
     let refusal = Refusal::FinalGenerationBelowZero;
     assert_eq!(settled(&with_export(11), 0), Err(refusal));

@@ -1,6 +1,7 @@
 //! Inputs made for a landmark, with what document 01 says of them.
 
 mod greatest;
+mod parts;
 mod rounding;
 
 use second::draft;
@@ -30,6 +31,7 @@ pub fn all(seed: u64) -> Vec<Directed> {
     all.extend(greatest::all(chance));
     all.extend(rounding::all(chance));
     all.extend(buckets(chance));
+    all.extend(parts::all(chance));
     all
 }
 

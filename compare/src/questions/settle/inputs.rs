@@ -1,5 +1,7 @@
 //! Inputs drawn by chance: sound ones, extreme ones and damaged ones.
 
+use second::flow::market_flow;
+use second::generation_to_load::Balance;
 use second::layout::{ENTITLEMENTS, FACTORS, LOADS, MOST_ENTITLEMENTS, MOST_PARS, NAME, PAR_FLOWS};
 use second::names::NameField;
 use second::payment::LARGEST_FLOW;
@@ -146,8 +148,9 @@ pub fn steer(chance: &mut Chance, interval: &mut Interval, wanted: impl Fn(i64) 
 /// 0 for another.
 pub fn market(sheet: &[u8]) -> i64 {
     let flow = reader::read(sheet).ok().and_then(|sheet| {
-        let balance = second::balance::balance(&sheet).ok()?;
-        Some(second::flow::market_flow(&sheet, &balance).market.0)
+        let balance = Balance::of(&sheet);
+        balance.rows().ok()?;
+        Some(market_flow(&sheet, &balance).market.0)
     });
     flow.unwrap_or(0)
 }

@@ -1,17 +1,19 @@
 //! Situations that a comparison must not miss.
 
-use second::balance::{Balance, balance};
+mod parts;
+
 use second::exact;
 use second::flow::{carried, market_flow};
 use second::fraction::Fraction;
+use second::generation_to_load::Balance;
 use second::layout::{
     Fields, Kind, LOADS, MOST_ENTITLEMENTS, MOST_PARS, MOST_POINTS, MOST_UNITS, MOST_ZONES, NAME,
 };
 use second::names::NameField;
 use second::payment::LARGEST_FLOW;
 use second::reader::read;
-use second::sheet::{Class, FLOWGATE, Place, Rto, Sheet, Subject};
-use second::units::{AMOUNT_DIVISOR, Power, WHOLE_FACTOR, Watts};
+use second::sheet::{Class, FLOWGATE, Place, Rto, Sheet};
+use second::units::{AMOUNT_DIVISOR, Power, WHOLE_FACTOR};
 use second::{Refusal, Statement, draft, listing};
 
 use crate::crafted::share_a_bucket;
@@ -35,7 +37,7 @@ const HALVES: [&str; 4] = [
     "a half below zero goes up to even",
 ];
 
-const ACCEPTED: [&str; 26] = [
+const ACCEPTED: [&str; 29] = [
     "difference zero",
     "difference of one watt",
     "market flow on the upper limit",
@@ -62,11 +64,14 @@ const ACCEPTED: [&str; 26] = [
     "256 units in one bucket",
     "2,500 entries in one bucket",
     "an entitlement of +-10,000 MW",
+    "zones with losses and line imports, final load below net load",
+    "G above net generation above final generation above zero",
+    "a PAR's own flow, G, net and final generation differ",
 ];
 
 const OF_ACCEPTED: usize = QUOTIENTS.len() * HALVES.len() + ACCEPTED.len();
 
-const REFUSED: [&str; 14] = [
+const REFUSED: [&str; 24] = [
     "row 7 by the last of 256 units in one bucket",
     "row 8 by a unit in zone 32 of 31",
     "row 8 by a line into zone 32 of 31",
@@ -81,6 +86,16 @@ const REFUSED: [&str; 14] = [
     "row 22 by 9 W or less above",
     "row 22 by 9 W or less below",
     "row 22, PARs carry more than 4.7 x 10^16",
+    "row 16 by loads, net load of 2,000,000 or less",
+    "row 16 by outputs, net generation of 2,000,000 or less",
+    "row 17 where 19 is met too",
+    "row 17 where 20 is met too",
+    "row 17 where 21 is met too",
+    "row 18 where 19 is met too",
+    "row 18 where 20 is met too",
+    "row 18 where 21 is met too",
+    "row 18, net load above zero and no row met behind it",
+    "row 20, G above zero",
 ];
 
 /// The landmarks, in the order in which they are counted.
@@ -128,27 +143,24 @@ fn full_bucket<'a>(names: impl Iterator<Item = &'a NameField> + Clone, count: us
 
 fn accepted(input: &Input, statement: &Statement) -> Vec<bool> {
     let sheet = &read(&input.sheet).expect("an accepted sheet is read");
-    let balance = &balance(sheet).expect("an accepted sheet is balanced");
+    let balance = &Balance::of(sheet);
     let mut shown = halves(sheet, balance, statement);
     shown.extend(figures(statement));
-    shown.extend(powers(sheet, balance));
+    shown.extend(powers(balance));
     shown.extend(accuracy(sheet, statement));
     shown.extend(pars(sheet, balance));
     shown.extend(sizes(input, sheet, statement));
+    shown.extend(parts::accepted(sheet, balance));
     assert_eq!(shown.len(), OF_ACCEPTED);
     shown
 }
 
 /// The halves of each quotient.
 fn halves(sheet: &Sheet, balance: &Balance, statement: &Statement) -> Vec<bool> {
+    let Balance { loads, generation } = balance;
     let gtl = statement.flow.generation_to_load;
-    let factors = sheet.factors(FLOWGATE, Subject::Zone);
-    let by_loads = factors
-        .zip(balance.zone_loads)
-        .map(|(factor, load)| load * factor);
-    let first = by_loads.sum::<Watts>().0 * balance.outputs.0;
-    let generation = balance.net_generation.0;
-    let second = gtl.flow.0 * generation + gtl.second_remainder.0;
+    let first = gtl.weighted_loads.watts().0 * generation.outputs.0;
+    let second = gtl.whole_flow.0 * generation.final_generation.0;
     // A redirect that does not count is not rounded.
     let noncommon = match sheet.head.monitoring {
         Rto::Nyiso => 0,
@@ -157,8 +169,8 @@ fn halves(sheet: &Sheet, balance: &Balance, statement: &Statement) -> Vec<bool> 
     let difference = statement.flow.market.0 - statement.entitlement.0;
     let product = difference * statement.payment.price.0 * sheet.head.seconds.0;
     let quotients: [[bool; HALVES.len()]; QUOTIENTS.len()] = [
-        halved(first, balance.net_load.0),
-        halved(second, generation),
+        halved(first, loads.net_load.0),
+        halved(second, generation.net_generation.0),
         halved(carried(sheet, balance, Class::Common).0, WHOLE_FACTOR),
         halved(noncommon, WHOLE_FACTOR),
         halved(product, AMOUNT_DIVISOR),
@@ -179,12 +191,13 @@ fn figures(statement: &Statement) -> [bool; 5] {
     ]
 }
 
-fn powers(sheet: &Sheet, balance: &Balance) -> [bool; 4] {
+fn powers(balance: &Balance) -> [bool; 4] {
+    let Balance { loads, generation } = balance;
     [
-        balance.final_generation.0 == 0,
-        balance.net_load.0 - of_proxies(sheet, |it| it.import.0) == 1,
-        loads(sheet) == *LOADS.end(),
-        balance.outputs.0 == *LOADS.end(),
+        generation.final_generation.0 == 0,
+        loads.final_load.0 == 1,
+        loads.total_load.0 == *LOADS.end(),
+        generation.outputs.0 == *LOADS.end(),
     ]
 }
 
@@ -249,20 +262,6 @@ fn accuracy(sheet: &Sheet, statement: &Statement) -> [bool; 5] {
     ]
 }
 
-fn loads(sheet: &Sheet) -> i64 {
-    sheet.zones.iter().map(|it| (it.load + it.losses).0).sum()
-}
-
-fn outputs(sheet: &Sheet) -> i64 {
-    sheet.units.iter().map(|it| it.output.0).sum()
-}
-
-/// Imports, or exports, of all proxies.
-fn of_proxies(sheet: &Sheet, schedule: fn(&second::sheet::Point) -> i64) -> i64 {
-    let proxies = sheet.points.iter().filter(|it| it.place == Place::Proxy);
-    proxies.map(schedule).sum()
-}
-
 fn refused(input: &Input, refusal: Refusal) -> [bool; REFUSED.len()] {
     let mut shown = [false; REFUSED.len()];
     match refusal {
@@ -325,56 +324,41 @@ fn in_zone_32_of_31(sheet: &[u8]) -> [bool; 2] {
     ]
 }
 
-/// Each zone's load, and its generation.
-fn by_zone(sheet: &Sheet) -> [Vec<i64>; 2] {
-    let mut loads: Vec<i64> = sheet
-        .zones
-        .iter()
-        .map(|it| (it.load + it.losses).0)
-        .collect();
-    let mut generation = vec![0; loads.len()];
-    for unit in &sheet.units {
-        generation[unit.zone.index()] += unit.output.0;
-    }
-    for point in &sheet.points {
-        if let Place::Line(zone) = point.place {
-            loads[zone.index()] -= point.import.0;
-            generation[zone.index()] -= point.export.0;
-        }
-    }
-    [loads, generation]
+/// Whether the last of 32 zones is the only one below zero.
+fn last_alone(zones: &[Power; MOST_ZONES]) -> bool {
+    let mut below = (0..MOST_ZONES).filter(|k| zones[*k] < Power::ZERO);
+    below.next() == Some(MOST_ZONES - 1)
 }
 
 fn in_balance(sheet: &Sheet, refusal: Refusal) -> [bool; REFUSED.len() - 5] {
-    let by_zone = by_zone(sheet);
-    let [net_load, net_generation] = [0, 1].map(|k| by_zone[k].iter().sum::<i64>());
-    let [in_loads, in_generation] = by_zone.map(|zones| {
-        let below: Vec<usize> = (0..zones.len()).filter(|k| zones[*k] < 0).collect();
-        below == [MOST_ZONES - 1]
-    });
-    let final_load = net_load - of_proxies(sheet, |it| it.import.0);
-    let final_generation = net_generation - of_proxies(sheet, |it| it.export.0);
+    let balance = &Balance::of(sheet);
+    let Balance { loads, generation } = balance;
     let is = |row| refusal == row;
-    let mut beyond = [false; 3];
-    if let (true, Ok(balance)) = (is(Refusal::FlowOutOfRange), balance(sheet)) {
-        let market = market_flow(sheet, &balance).market.0;
-        let carried = carried(sheet, &balance, Class::Common).0.abs()
-            + carried(sheet, &balance, Class::NonCommon).0.abs();
-        beyond = [
-            (1..10).contains(&(market - LARGEST_FLOW.0)),
-            (1..10).contains(&(-market - LARGEST_FLOW.0)),
-            carried > 47_000_000_000_000_000,
-        ];
-    }
+    let beyond = match is(Refusal::FlowOutOfRange) {
+        true => beyond(sheet, balance),
+        false => [false; 3],
+    };
+    let shown = [
+        is(Refusal::TooMuchPower) && loads.total_load.0 == LOADS.end() + 1,
+        is(Refusal::TooMuchPower) && generation.outputs.0 == LOADS.end() + 1,
+        is(Refusal::ZoneLoadBelowZero) && last_alone(&loads.zone_loads),
+        is(Refusal::NoFinalLoad) && loads.final_load.0 == 0,
+        is(Refusal::ZoneGenerationBelowZero) && last_alone(&generation.zone_generation),
+        is(Refusal::FinalGenerationBelowZero) && generation.final_generation.0 == -1,
+    ];
+    let parts = parts::refused(balance, refusal);
+    let shown = [&shown[..], &beyond, &parts].concat();
+    shown.try_into().expect("one for each name")
+}
+
+/// Row 22 by 9 W or less above and below, and by much that PARs carry.
+fn beyond(sheet: &Sheet, balance: &Balance) -> [bool; 3] {
+    let market = market_flow(sheet, balance).market.0;
+    let carried = carried(sheet, balance, Class::Common).0.abs()
+        + carried(sheet, balance, Class::NonCommon).0.abs();
     [
-        is(Refusal::TooMuchPower) && loads(sheet) == LOADS.end() + 1,
-        is(Refusal::TooMuchPower) && outputs(sheet) == LOADS.end() + 1,
-        is(Refusal::ZoneLoadBelowZero) && in_loads,
-        is(Refusal::NoFinalLoad) && final_load == 0,
-        is(Refusal::ZoneGenerationBelowZero) && in_generation,
-        is(Refusal::FinalGenerationBelowZero) && final_generation == -1,
-        beyond[0],
-        beyond[1],
-        beyond[2],
+        (1..10).contains(&(market - LARGEST_FLOW.0)),
+        (1..10).contains(&(-market - LARGEST_FLOW.0)),
+        carried > 47_000_000_000_000_000,
     ]
 }

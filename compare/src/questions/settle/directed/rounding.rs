@@ -2,10 +2,10 @@
 
 use second::exact;
 use second::fraction::Fraction;
+use second::generation_to_load::{Balance, flow};
 use second::layout::{FACTORS, MOST_PARS};
 use second::reader::read;
 use second::sheet::FLOWGATE;
-use second::{balance, flow};
 
 use crate::chance::Chance;
 use crate::interval::{Interval, Scale, Sizes, drawn};
@@ -45,8 +45,7 @@ pub fn all(chance: &mut Chance) -> Vec<Directed> {
 fn error(interval: &Interval, target: usize) -> Fraction {
     let bytes = interval.records().concat();
     let sheet = read(&bytes).expect("a drawn interval passes the reader");
-    let balance = balance::balance(&sheet).expect("a drawn interval is balanced");
-    let rounded = flow::generation_to_load(&sheet, &balance, target).flow;
+    let rounded = flow(&sheet, &Balance::of(&sheet), target).flow;
     &Fraction::whole(rounded.0) - &exact::generation_to_load(&sheet, target)
 }
 
