@@ -1,18 +1,18 @@
 -- One side of the balance, loads or generation: what its two arrays hold, and what is made of them.
 use Prim.Native.Nat.{ℕ, _+_, _<_, _≤_}
 use native.Mathlib.Omega.{arith}
-use mathlib.Core.Path.{_≡_, ap₂, _∙_}
+use mathlib.Core.Path.{_≡_, refl, ap₂, _∙_}
 use mathlib.Core.List.{List}
 use lib.Dec.{lit<}
-use lib.IntN.{ℤ, pos, natAbs, _-ℤ_}
+use lib.IntN.{ℤ, pos, _-ℤ_}
 use lib.ListN.{getD}
 use mir.Syntax.{w64}
-use mir.Val.{toZ}
+use mir.Val.{toZ, SFits}
 use Rattle.integers.specs.Sum.{sumTo}
-use Rattle.integers.proofs.Machine.{Num, Op, rd, num-is, num-u, sub}
+use Rattle.integers.proofs.Machine.{Num, Op, rd, abs-fits, num-is, num-u, sub}
 use Rattle.integers.proofs.Sums.{sum-same, sum-abs}
 use Rattle.layout.specs.declared.Layout.{Layout}
-use Rattle.records.specs.declared.Place.the-variants.{Proxy}
+use Rattle.records.specs.declared.Place.the-variants.{Proxy, Line}
 use Rattle.record_rows.specs.inner.Valid.{Valid}
 use Rattle.sheet.specs.declared.Outcome.the-variants.{Accepted}
 use Rattle.sheet.specs.Sheet.{readSheet, contentOf}
@@ -21,12 +21,29 @@ use Rattle.figures.specs.Balance.{imports, exports, totalLoad, zoneLoad, zoneOu
 use Rattle.zone_sums.specs.declared.Ledger.{Ledger}
 use Rattle.zone_sums.specs.declared.Ledger.the-variants.{Loads, Outputs, Imports, Exports}
 use Rattle.zone_sums.specs.ByZone.{cells}
-use Rattle.zone_sums.specs.inner.Ledger.{Sums, Small, amountAt, netAt, total, Held, figureAt}
+use Rattle.zone_sums.specs.inner.Ledger.{sumAt, Sums, Small, amountAt, netAt, total, Held, figureAt}
 use Rattle.zone_sums.proofs.Cells.{cell-at, cells-same, cells-held}
 use Rattle.zone_sums.proofs.Laws.{outputs-are, imports-are, exports-are, loads-are, proxy-imports-are, proxy-exports-are, net-at-most, total-num}
 use Rattle.zone_sums.proofs.Bookings.{small-of}
 
--- at each zone g before anything is taken off and f after it; and what the proxies take off
+-- what is made of two arrays of sums, p and m: xs the figures of the zones, x their sum, as the calls returned them
+module _ {p m : List ℕ} {zones : ℕ} (few : zones ≤ 32) (sp : Small p) (sm : Small m) {xs : List ℤ} (exs : xs ≡ cells (netAt p m) zones) where
+  pub held : Held xs
+  held = rw exs (cells-held (netAt p m) zones few (λ z l. net-at-most p m sp sm z (omega arith)))
+
+  net-num : {x : ℤ} → x ≡ sumTo (figureAt xs) zones → Num (rd x) (sumTo (figureAt xs) zones) 65536000000
+  net-num {x = x} ex = num-is x (sumTo (figureAt xs) zones) 65536000000 ex (omega (arith, sum-abs (figureAt xs) 2048000000 zones (λ z l. held .most z (omega arith)))) (lit< tt)
+
+  final-op : {x : ℤ} → x ≡ sumTo (figureAt xs) zones → Op (rd x -ℤ toZ w64 (getD m 0 0)) (sumTo (figureAt xs) zones -ℤ pos (getD m 0 0)) 66560000000
+  final-op ex = sub (net-num ex) (num-u (getD m 0 0) 1024000000 (sm .most 0 (omega arith)) (lit< tt)) (lit< tt)
+
+  pub final-fits : {x : ℤ} → x ≡ sumTo (figureAt xs) zones → SFits w64 (rd x -ℤ toZ w64 (getD m 0 0))
+  final-fits ex = final-op ex .fits
+
+pub proxies-fit : {m : List ℕ} → Small m → SFits w64 (pos (getD m 0 0))
+proxies-fit {m = m} sm = abs-fits (pos (getD m 0 0)) (omega (arith, sm .most 0 (omega arith)))
+
+-- one side: at each zone g before anything is taken off and f after it; and what the proxies take off
 pub record Side (p m : List ℕ) (zones : ℕ) (g f : ℕ → ℤ) (proxies : ℤ) : Type 0 where
   pub few : zones ≤ 32
   pub plus-small : Small p
@@ -36,31 +53,23 @@ pub record Side (p m : List ℕ) (zones : ℕ) (g f : ℕ → ℤ) (proxies : �
   pub at-proxies : pos (getD m 0 0) ≡ proxies
 
 module _ {p m : List ℕ} {zones : ℕ} {g f : ℕ → ℤ} {proxies : ℤ} (d : Side p m zones g f proxies) where
-  net-most : (z : ℕ) → z < zones → natAbs (netAt p m z) ≤ 2048000000
-  net-most z l = net-at-most p m (d .plus-small) (d .minus-small) z (omega (arith, d .few))
-
-  pub gross-num : (t : ℤ) → t ≡ total p zones → Num (rd t) (sumTo g zones) 32768000000
+  pub gross-is : {t : ℤ} → t ≡ total p zones → rd t ≡ sumTo g zones
   unfolding total
-  gross-num t e =
-      let n = total-num p (d .plus-small) zones (d .few) t e in
-      let q = sum-same (amountAt p) g zones (d .gross-at) in
-      record { is = n .is ∙ q; abs = rw q at (n .abs) }
+  gross-is {t = t} et = total-num p (d .plus-small) zones (d .few) t et .is ∙ sum-same (amountAt p) g zones (d .gross-at)
 
-  -- the array of the zones' figures, xs, as the call returned it
-  module _ {xs : List ℤ} (ex : xs ≡ cells (netAt p m) zones) where
+  module _ {xs : List ℤ} (exs : xs ≡ cells (netAt p m) zones) where
     pub cells-are : xs ≡ cells f zones
-    cells-are = ex ∙ cells-same (netAt p m) f zones (d .net-at)
+    cells-are = exs ∙ cells-same (netAt p m) f zones (d .net-at)
 
-    pub held : Held xs
-    held = rw ex (cells-held (netAt p m) zones (d .few) net-most)
+    sum-is : sumTo (figureAt xs) zones ≡ sumTo f zones
+    sum-is = sum-same (figureAt xs) f zones (λ z l. rw cells-are (cell-at f zones z (d .few) l))
 
-    pub net-num : (x : ℤ) → x ≡ sumTo (figureAt xs) zones → Num (rd x) (sumTo f zones) 65536000000
-    net-num x e =
-        num-is x (sumTo f zones) 65536000000 (e ∙ sum-same (figureAt xs) f zones (λ z l. rw cells-are (cell-at f zones z (d .few) l)))
-        (omega (arith, sum-abs f 2048000000 zones (λ z l. rw (d .net-at z l) at (net-most z l)), d .few)) (lit< tt)
+    module _ {x : ℤ} (ex : x ≡ sumTo (figureAt xs) zones) where
+      pub net-is : rd x ≡ sumTo f zones
+      net-is = net-num (d .few) (d .plus-small) (d .minus-small) exs ex .is ∙ sum-is
 
-    pub final-op : (x : ℤ) → x ≡ sumTo (figureAt xs) zones → Op (rd x -ℤ toZ w64 (getD m 0 0)) (sumTo f zones -ℤ proxies) 66560000000
-    final-op x e = rw (← d .at-proxies) (sub (net-num x e) (num-u (getD m 0 0) 1024000000 (d .minus-small .most 0 (omega arith)) (lit< tt)) (lit< tt))
+      pub final-is : rd (rd x -ℤ toZ w64 (getD m 0 0)) ≡ sumTo f zones -ℤ proxies
+      final-is = final-op (d .few) (d .plus-small) (d .minus-small) exs ex .num .is ∙ rw (sum-is, d .at-proxies)
 
 -- of an accepted sheet
 module _ (s : List ℕ) (l : Layout) (e : readSheet s ≡ Accepted l) where
@@ -74,30 +83,34 @@ module _ (s : List ℕ) (l : Layout) (e : readSheet s ≡ Accepted l) where
   small = small-of (contentOf s) is-valid
 
   module _ (p m : List ℕ) where
-    pub load-side : Sums (contentOf s) Loads p → Sums (contentOf s) Imports m → Side p m (l .zones) (totalLoad (contentOf s)) (zoneLoad (contentOf s)) (imports (contentOf s) Proxy)
-    unfolding amountAt netAt zoneLoad
-    load-side hp hm =
-        let c = contentOf s in
-        let load-at : (z : ℕ) → z < l .zones → pos (getD p (z + 1) 0) ≡ totalLoad c z = λ z k. hp .sum (z + 1) (omega (arith, few-zones)) ∙ loads-are c z (omega (arith, counts s l e .zones)) in
+    -- what is taken off at each zone stands in the second ledger
+    side : {plus minus : Ledger} (g f taken : ℕ → ℤ) {proxies : ℤ} → Sums (contentOf s) plus p → Sums (contentOf s) minus m →
+        ((z : ℕ) → z < l .zones → sumAt (contentOf s) plus (z + 1) ≡ g z) →
+        ((z : ℕ) → sumAt (contentOf s) minus (z + 1) ≡ taken z) →
+        sumAt (contentOf s) minus 0 ≡ proxies →
+        ((z : ℕ) → g z -ℤ taken z ≡ f z) →
+        Side p m (l .zones) g f proxies
+    unfolding amountAt netAt
+    side {plus = plus} {minus = minus} g f taken hp hm plus-is minus-is proxies-are less =
+        let number : (z : ℕ) → z < l .zones → z + 1 < 33 = λ z k. omega (arith, few-zones) in
+        let gross-at : (z : ℕ) → z < l .zones → pos (getD p (z + 1) 0) ≡ g z = λ z k. hp .sum (z + 1) (number z k) ∙ plus-is z k in
         record {
           few = few-zones;
-          plus-small = small Loads p hp;
-          minus-small = small Imports m hm;
-          gross-at = load-at;
-          net-at = λ z k. ap₂ (λ (x y : ℤ). x -ℤ y) (load-at z k) (hm .sum (z + 1) (omega (arith, few-zones)) ∙ imports-are c z);
-          at-proxies = hm .sum 0 (omega arith) ∙ proxy-imports-are c is-valid;
+          plus-small = small plus p hp;
+          minus-small = small minus m hm;
+          gross-at = gross-at;
+          net-at = λ z k. ap₂ (λ (x y : ℤ). x -ℤ y) (gross-at z k) (hm .sum (z + 1) (number z k) ∙ minus-is z) ∙ less z;
+          at-proxies = hm .sum 0 (omega arith) ∙ proxies-are;
         }
 
+    pub load-side : Sums (contentOf s) Loads p → Sums (contentOf s) Imports m → Side p m (l .zones) (totalLoad (contentOf s)) (zoneLoad (contentOf s)) (imports (contentOf s) Proxy)
+    unfolding zoneLoad
+    load-side hp hm =
+        let c = contentOf s in
+        side (totalLoad c) (zoneLoad c) (λ z. imports c (Line (z + 1))) hp hm (λ z k. loads-are c z (omega (arith, counts s l e .zones))) (imports-are c) (proxy-imports-are c is-valid) (λ z. refl)
+
     pub generation-side : Sums (contentOf s) Outputs p → Sums (contentOf s) Exports m → Side p m (l .zones) (zoneOutput (contentOf s)) (zoneGeneration (contentOf s)) (exports (contentOf s) Proxy)
-    unfolding amountAt netAt zoneGeneration
+    unfolding zoneGeneration
     generation-side hp hm =
         let c = contentOf s in
-        let output-at : (z : ℕ) → z < l .zones → pos (getD p (z + 1) 0) ≡ zoneOutput c z = λ z k. hp .sum (z + 1) (omega (arith, few-zones)) ∙ outputs-are c z in
-        record {
-          few = few-zones;
-          plus-small = small Outputs p hp;
-          minus-small = small Exports m hm;
-          gross-at = output-at;
-          net-at = λ z k. ap₂ (λ (x y : ℤ). x -ℤ y) (output-at z k) (hm .sum (z + 1) (omega (arith, few-zones)) ∙ exports-are c z);
-          at-proxies = hm .sum 0 (omega arith) ∙ proxy-exports-are c is-valid;
-        }
+        side (zoneOutput c) (zoneGeneration c) (λ z. exports c (Line (z + 1))) hp hm (λ z k. outputs-are c z) (exports-are c) (proxy-exports-are c is-valid) (λ z. refl)

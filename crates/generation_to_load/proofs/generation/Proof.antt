@@ -1,12 +1,9 @@
 -- `generation` meets its contract.
-use native.Mathlib.Omega.{arith}
 use mathlib.Core.Path.{refl}
 use borrow.Author.Needs.{needs}
-use Rattle.integers.proofs.Machine.{abs-fits}
 use Rattle.sheet.proofs.Accepted.{counts}
-use Rattle.zone_sums.specs.declared.Ledger.the-variants.{Outputs, Exports}
 use Rattle.zone_sums.specs.inner.Ledger.{bookings}
-use Rattle.zone_sums.proofs.Sides.{few-zones, small, generation-side, held, final-op}
+use Rattle.zone_sums.proofs.Sides.{few-zones, small, held, proxies-fit, final-fits, generation-side}
 use Rattle.generation_to_load.proofs.Sides.{generation-is}
 use Rattle.generation_to_load.proofs.generation.Statement.{statement}
 use Rattle.generation_to_load.proofs.generation.Tie as tie
@@ -16,46 +13,26 @@ unfolding bookings
 sum-up-requires c κs = let e = c .before .before .pre in (e, counts _ _ e .units, refl)
 
 total-requires : tie.Need-total-requires
-total-requires c κs =
-    let p = c .before in
-    let e = p .before .before .before .pre in
-    (few-zones _ _ e, small _ _ e Outputs _ (p .sum-up .ensures))
+total-requires c κs = search (needs, few-zones, small)
 
 sum-up-requires-2 : tie.Need-sum-up-requires-2
 unfolding bookings
 sum-up-requires-2 c κs = let e = c .before .before .before .before .before .before .pre in (e, counts _ _ e .points, refl)
 
 reduced-requires : tie.Need-reduced-requires
-reduced-requires c κs =
-    let m = c .before .before in
-    let p = m .before .before .before .before in
-    let e = p .before .before .before .pre in
-    (few-zones _ _ e, small _ _ e Outputs _ (p .sum-up .ensures), small _ _ e Exports _ (m .sum-up2 .ensures))
+reduced-requires c κs = search (needs, few-zones, small)
 
 net-requires : tie.Need-net-requires
-net-requires c κs =
-    let x = c .before in
-    let m = x .before .before .before in
-    let p = m .before .before .before .before in
-    let e = p .before .before .before .pre in
-    (few-zones _ _ e, held (generation-side _ _ e _ _ (p .sum-up .ensures) (m .sum-up2 .ensures)) (x .reduced .ensures))
+net-requires c κs = search (needs, few-zones, small, held)
 
 array-read-final-generation : tie.Need-array-read-final-generation
 array-read-final-generation c = search needs
 
 cast-final-generation : tie.Need-cast-final-generation
-cast-final-generation c =
-    let m = c .before .before .before .before .before in
-    let e = m .before .before .before .before .before .before .before .pre in
-    abs-fits _ (let h = small _ _ e Exports _ (m .sum-up2 .ensures) .most 0 (omega arith) in omega arith)
+cast-final-generation c = search (needs, small, proxies-fit)
 
 sub-final-generation : tie.Need-sub-final-generation
-sub-final-generation c =
-    let x = c .before .before in
-    let m = x .before .before .before in
-    let p = m .before .before .before .before in
-    let e = p .before .before .before .pre in
-    final-op (generation-side _ _ e _ _ (p .sum-up .ensures) (m .sum-up2 .ensures)) (x .reduced .ensures) _ (c .net .ensures) .fits
+sub-final-generation c = search (needs, few-zones, small, final-fits)
 
 returns : tie.Need-returns
 returns c =
