@@ -141,11 +141,11 @@ pub fn reduced<'a>(plus: &'a [u64; 33], minus: &'a [u64; 33], zones: usize) -> [
     ensures { λ r. ⌜ r ≡ cells (netAt (now (plus .entry)) (now (minus .entry))) zones ⌝ }
 {
     let mut out = [0i64; 32];
-    let mut z = 0;
-    while z < zones {
-        let x = net_at(plus, minus, z);
-        out[z] = x;
-        z += 1;
+    let mut zone = 0;
+    while zone < zones {
+        let x = net_at(plus, minus, zone);
+        out[zone] = x;
+        zone += 1;
     }
     out
 }

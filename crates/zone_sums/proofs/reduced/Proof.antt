@@ -1,4 +1,4 @@
--- `reduced` meets its contract: after z turns the first z cells are filled.
+-- `reduced` meets its contract: after n turns the first n cells are filled.
 use Prim.Native.Nat.{_≤_, _-_}
 use mathlib.Core.Path.{_≡_, ap, ap₂, _∙_}
 use mathlib.Core.List.{List}
@@ -14,10 +14,10 @@ use Rattle.zone_sums.proofs.reduced.Statement.{statement}
 use Rattle.zone_sums.proofs.reduced.Tie as tie
 
 abbrev Inv-loop : tie.InvT-loop
-Inv-loop plus minus zones out₀ z₀ out z = (z ≤ zones) × (out ≡ cells (netAt plus minus) z)
+Inv-loop plus minus zones out₀ zone₀ out zone = (zone ≤ zones) × (out ≡ cells (netAt plus minus) zone)
 
 abbrev μ-loop : tie.MeasureT-loop
-μ-loop plus minus zones out₀ z₀ out z = zones - z
+μ-loop plus minus zones out₀ zone₀ out zone = zones - zone
 
 loop-holds : tie.Need-loop-holds Inv-loop μ-loop
 loop-holds c = (omega arith, cells-zero _)
@@ -31,8 +31,8 @@ mul-out c = search needs
 array-set-from-out : tie.Need-array-set-from-out Inv-loop μ-loop
 array-set-from-out c = search needs
 
-add-z : tie.Need-add-z Inv-loop μ-loop
-add-z c = omega arith
+add-zone : tie.Need-add-zone Inv-loop μ-loop
+add-zone c = omega arith
 
 loop-less : tie.Need-loop-less Inv-loop μ-loop
 loop-less c = omega arith
@@ -41,12 +41,12 @@ loop-again : tie.Need-loop-again Inv-loop μ-loop
 loop-again c =
     let l = c .before .before in (
       omega arith,
-      ap₂ (λ (xs : List ℤ) (x : ℤ). set xs (l .loop .z) x) (l .loop .inv .1) (toZ-ofZ (record { sfits = c .net-at .ok }) ∙ c .net-at .ensures) ∙ cells-next _ (l .loop .z),
+      ap₂ (λ (xs : List ℤ) (x : ℤ). set xs (l .loop .zone) x) (l .loop .inv .1) (toZ-ofZ (record { sfits = c .net-at .ok }) ∙ c .net-at .ensures) ∙ cells-next _ (l .loop .zone),
     )
 
 returns : tie.Need-returns Inv-loop μ-loop
 returns c =
-    let e : c .before .loop .z ≡ c .before .before .args .zones = omega arith in
+    let e : c .before .loop .zone ≡ c .before .before .args .zones = omega arith in
     c .before .loop .inv .1 ∙ ap (cells _) e
 
 pub reduced-spec : {M : Type 1} → statement M
@@ -59,7 +59,7 @@ reduced-spec =
     net-at-requires
     mul-out
     array-set-from-out
-    add-z
+    add-zone
     loop-less
     loop-again
     returns)
