@@ -1,5 +1,6 @@
 -- `m2m_entitlement` meets its contract.
 use mathlib.Core.Path.{_≡_, sym, ap, _∙_}
+use lib.IntN.{ℤ}
 use mir.Facts.{toZ-ofZ}
 use mir.Syntax.{w64}
 use mir.Val.{SFits}
@@ -24,7 +25,9 @@ value-fits : (c : tie.After-known-told2) → SFits w64 (c .before .value .given 
 value-fits c = search needs
 
 returns-2 : tie.Need-returns-2
-returns-2 c = rw (toZ-ofZ (value-fits c)) (sym (ap entitlementAnswer (sym (c .before .before .before .find .ensures) ∙ c .before .value .given .1)))
+returns-2 c =
+    ap (λ (z : ℤ). record { refusal = 0; value = z }) (toZ-ofZ (value-fits c))
+    ∙ sym (ap entitlementAnswer (sym (c .before .before .before .find .ensures) ∙ c .before .value .given .1))
 
 pub m2m-entitlement-spec : {M : Type 1} → statement M
 m2m-entitlement-spec = tie.close (tie.spec find-requires enum-known-row enum-known-value returns returns-2)
