@@ -9,7 +9,7 @@ weighted-requires : tie.Need-weighted-requires
 weighted-requires c κs = search needs
 
 weighted-load-requires : tie.Need-weighted-load-requires
-weighted-load-requires c κs = let p = c .before .before .pre in (record { accepted = p .0 .accepted; loads = p .0 .loads }, p .1)
+weighted-load-requires c κs = search needs
 
 load-share-requires : tie.Need-load-share-requires
 load-share-requires c κs =
