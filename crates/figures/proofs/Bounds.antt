@@ -2,7 +2,7 @@
 use Prim.Native.Nat.{ℕ, _+_, _-_, _*_, _≤_, _<_}
 use native.Mathlib.Nat.{le-refl, le-trans, mul-le-mul-left}
 use native.Mathlib.Omega.{arith}
-use mathlib.Core.Path.{_≡_, _∙_}
+use mathlib.Core.Path.{_≡_, refl, _∙_}
 use mathlib.Core.Bool.{Bool, true, false, cond}
 use borrow.Author.Tests.{eq-eqb, ne-eqb}
 use lib.Dec.{eqb}
@@ -21,11 +21,15 @@ use Rattle.records.specs.Content.{Content, unit, par}
 use Rattle.record_rows.specs.inner.Valid.{Valid}
 use Rattle.figures.specs.Balance.{imports, totalLoad, zoneLoad, netLoad, output, outputIn, zoneOutput, exports, zoneGeneration, netGeneration, finalGeneration, grossOutput, grossLoad, balanceRow}
 use Rattle.figures.specs.Flow.{factor, parFactor, outputTerm, weightedOutput, loadTerm, weightedLoad, firstDividend, loadShare, firstRemainder, grossFlow, secondDividend, generationToLoad, secondRemainder, parallel, shadow, control, carriedTerm, carriedSum, carried, redirect, nyisoMonitors, nonCommonRedirect, marketFlow}
-use Rattle.figures.specs.inner.Most.{mostPower, mostWeighted, mostShare, mostGenerationToLoad, mostSchedule, mostRedirect}
+use Rattle.figures.specs.inner.Most.{mostPower, mostWeighted, mostShare, mostGenerationToLoad, mostSchedule, mostOnPar, mostOverPar, mostCarriedSum, mostCarried, mostRedirect, mostMarket}
 use Rattle.figures.proofs.Numbers.{natural-least, less-left, size-most, size-rise, cond-within, times-within, sum-within, sum-rise, sum-weighted, remainder-within, quotient-share}
 use Rattle.figures.proofs.Balanced.{imports-least, exports-least, gross-load-most, gross-output-most, zone-load-least, net-load-above, net-generation-above, final-generation-least, final-generation-most}
 use Rattle.figures.proofs.Factors.{unit-factor-within, zone-factor-within, par-factor-within}
 use Rattle.figures.proofs.Ranges.{parallel-within, shadow-within, control-within}
+
+-- the bounds of steps 4 to 6 as figures
+pub worked-bounds : (mostSchedule ≡ 640000000000) × (mostCarriedSum ≡ 83200000000000000) × (mostRedirect ≡ 8640000000000) × (mostMarket ≡ 18960000000000)
+worked-bounds = (refl, refl, refl, refl)
 
 -- a number times a factor
 weighted : (x f : ℤ) → natAbs f ≤ 10000 → natAbs (x *ℤ f) ≤ 10000 * natAbs x
@@ -33,7 +37,7 @@ weighted x f h = omega (arith, abs-mul x f, mul-le-mul-left (natAbs x) h)
 
 -- the market flow's five parts
 parts-small : (a b d f g : ℤ) → natAbs a ≤ mostGenerationToLoad → natAbs b ≤ mostSchedule → natAbs d ≤ mostSchedule → natAbs f ≤ mostRedirect → natAbs g ≤ mostRedirect →
-    natAbs (a +ℤ b +ℤ d -ℤ f -ℤ g) ≤ 18960000000000
+    natAbs (a +ℤ b +ℤ d -ℤ f -ℤ g) ≤ mostMarket
 parts-small a b d f g = simp zi (simp zo (omega zarith))
 
 output-least : (c : Content) (i : ℕ) → pos 0 ≤ℤ output c i
@@ -137,21 +141,21 @@ module _ {c : Content} (v : Valid c) (e : balanceRow c ≡ 0) where
     second-remainder-small = remainder-within (secondDividend c target) (netGeneration c) (net-generation-above c e) net-generation-small
 
   -- steps 5 and 6
-  pub carried-term-small : (class i : ℕ) → i < length (c .pars) → natAbs (carriedTerm c class i) ≤ 10400000000000000
+  pub carried-term-small : (class i : ℕ) → i < length (c .pars) → natAbs (carriedTerm c class i) ≤ mostOverPar
   unfolding carriedTerm
   carried-term-small class i l =
       let k : i + 1 ≤ length (c .pars) = omega arith in
       cond-within (eqb (par c i .class) class) (parFactor c i *ℤ (generationToLoad c (i + 1) +ℤ parallel c (i + 1)))
-      (times-within (parFactor c i) (generationToLoad c (i + 1) +ℤ parallel c (i + 1)) {b = 1040000000000} (par-factor-within v i l)
+      (times-within (parFactor c i) (generationToLoad c (i + 1) +ℤ parallel c (i + 1)) {b = mostOnPar} (par-factor-within v i l)
       (omega (arith, abs-add (generationToLoad c (i + 1)) (parallel c (i + 1)), generation-to-load-small k, parallel-within v k)))
 
-  pub carried-sum-small : (class : ℕ) → natAbs (carriedSum c class) ≤ 83200000000000000
+  pub carried-sum-small : (class : ℕ) → natAbs (carriedSum c class) ≤ mostCarriedSum
   unfolding carriedSum
-  carried-sum-small class = sum-within (carriedTerm c class) 10400000000000000 (carried-term-small class) (v .pars-most)
+  carried-sum-small class = sum-within (carriedTerm c class) mostOverPar (carried-term-small class) (v .pars-most)
 
-  pub carried-small : (class : ℕ) → natAbs (carried c class) ≤ 8320000000000
+  pub carried-small : (class : ℕ) → natAbs (carried c class) ≤ mostCarried
   unfolding carried
-  carried-small class = quotient-share (carriedSum c class) (pos 10000) 8320000000000 (record { lt = tt }) (carried-sum-small class)
+  carried-small class = quotient-share (carriedSum c class) (pos 10000) mostCarried (record { lt = tt }) (carried-sum-small class)
 
   pub redirect-small : (class : ℕ) → natAbs (redirect c class) ≤ mostRedirect
   unfolding redirect
@@ -165,7 +169,7 @@ module _ {c : Content} (v : Valid c) (e : balanceRow c ≡ 0) where
       by true = omega arith
       by false = redirect-small noncommon
 
-  pub market-flow-small : natAbs (marketFlow c) ≤ 18960000000000
+  pub market-flow-small : natAbs (marketFlow c) ≤ mostMarket
   unfolding marketFlow
   market-flow-small =
       let k : 0 ≤ length (c .pars) = omega arith in

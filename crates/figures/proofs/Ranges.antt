@@ -10,12 +10,13 @@ use Rattle.integers.proofs.Linear.{zarith}
 use Rattle.integers.proofs.Tactic.{zi, zo}
 use Rattle.records.specs.declared.Place.{Place}
 use Rattle.records.specs.declared.Place.the-variants.{Line}
+use Rattle.records.specs.declared.Point.{Point}
 use Rattle.records.specs.Codes.{common, noncommon, pointSubject}
 use Rattle.records.specs.Content.{Content, zone, unit, point, par}
-use Rattle.record_rows.specs.inner.Valid.{Valid}
+use Rattle.record_rows.specs.inner.Valid.{PointFits, Valid}
 use Rattle.figures.specs.Balance.{samePlace, importAt, imports, totalLoad, zoneLoad, output}
 use Rattle.figures.specs.Flow.{factor, parFactor, netSchedule, scheduleTerm, scheduleFlow, parallel, shadow, controlTerm, control}
-use Rattle.figures.specs.inner.Most.{mostSchedule}
+use Rattle.figures.specs.inner.Most.{mostNet, mostSchedule, mostControl}
 use Rattle.figures.proofs.Numbers.{cond-within, times-within, sum-within}
 use Rattle.figures.proofs.Factors.{point-factor-within, par-factor-within}
 
@@ -23,8 +24,12 @@ use Rattle.figures.proofs.Factors.{point-factor-within, par-factor-with
 watts-within : (x f : ℤ) {a : ℕ} → natAbs x ≤ a → natAbs f ≤ 10000 → natAbs (x *ℤ f *ℤ pos 10) ≤ a * 10000 * 10
 watts-within x f h k = times-within (x *ℤ f) (pos 10) (times-within x f h k) (le-refl 10)
 
-gap-within : (a b : ℕ) → a ≤ 200000 → b ≤ 200000 → natAbs (pos a -ℤ pos b) ≤ 200000
+gap-within : (a b : ℕ) → a ≤ 200000 → b ≤ 200000 → natAbs (pos a -ℤ pos b) ≤ mostNet
 gap-within a b = simp zi (simp zo (omega zarith))
+
+pub net-within : {zones : ℕ} {p : Point} → PointFits zones p → natAbs (netSchedule p) ≤ mostNet
+unfolding netSchedule
+net-within {p = p} f = gap-within (p .import) (p .export) (f .import) (f .export)
 
 module _ {c : Content} (v : Valid c) where
   -- steps 1 and 2
@@ -43,16 +48,15 @@ module _ {c : Content} (v : Valid c) where
 
   -- step 4, for a target of the sheet
   module _ {target : ℕ} (k : target ≤ length (c .pars)) where
-    schedule-term-within : (type i : ℕ) → i < length (c .points) → natAbs (scheduleTerm c type target i) ≤ 20000000000
-    unfolding scheduleTerm netSchedule
+    schedule-term-within : (type i : ℕ) → i < length (c .points) → natAbs (scheduleTerm c type target i) ≤ mostNet * 10000 * 10
+    unfolding scheduleTerm
     schedule-term-within type i l =
-        cond-within (eqb (point c i .sort) type) (netSchedule c i *ℤ factor c target pointSubject i *ℤ pos 10)
-        (watts-within (netSchedule c i) (factor c target pointSubject i)
-        (gap-within (point c i .import) (point c i .export) (v .point-fits i l .import) (v .point-fits i l .export)) (point-factor-within v k i l))
+        cond-within (eqb (point c i .sort) type) (netSchedule (point c i) *ℤ factor c target pointSubject i *ℤ pos 10)
+        (watts-within (netSchedule (point c i)) (factor c target pointSubject i) (net-within (v .point-fits i l)) (point-factor-within v k i l))
 
     pub schedule-flow-within : (type : ℕ) → natAbs (scheduleFlow c type target) ≤ mostSchedule
     unfolding scheduleFlow
-    schedule-flow-within type = sum-within (scheduleTerm c type target) 20000000000 (schedule-term-within type) (v .points-most)
+    schedule-flow-within type = sum-within (scheduleTerm c type target) (mostNet * 10000 * 10) (schedule-term-within type) (v .points-most)
 
     pub parallel-within : natAbs (parallel c target) ≤ mostSchedule
     unfolding parallel
@@ -63,12 +67,12 @@ module _ {c : Content} (v : Valid c) where
     shadow-within = schedule-flow-within common
 
   -- step 5
-  control-term-within : (class i : ℕ) → i < length (c .pars) → natAbs (controlTerm c class i) ≤ 40000000000
+  control-term-within : (class i : ℕ) → i < length (c .pars) → natAbs (controlTerm c class i) ≤ 400000 * 10000 * 10
   unfolding controlTerm
   control-term-within class i l =
       cond-within (eqb (par c i .class) class) ((par c i .actual -ℤ par c i .target) *ℤ parFactor c i *ℤ pos 10)
       (watts-within (par c i .actual -ℤ par c i .target) (parFactor c i) {a = 400000} (omega (arith, abs-sub (par c i .actual) (par c i .target), v .par-fits i l)) (par-factor-within v i l))
 
-  pub control-within : (class : ℕ) → natAbs (control c class) ≤ 320000000000
+  pub control-within : (class : ℕ) → natAbs (control c class) ≤ mostControl
   unfolding control
-  control-within class = sum-within (controlTerm c class) 40000000000 (control-term-within class) (v .pars-most)
+  control-within class = sum-within (controlTerm c class) (400000 * 10000 * 10) (control-term-within class) (v .pars-most)

@@ -8,6 +8,7 @@ use lib.ListN.{length}
 use Rattle.integers.specs.Sum.{sumTo}
 use Rattle.quotient.specs.Rounded.{quotient, remainder}
 use Rattle.rows.specs.Rows.{row, beyond}
+use Rattle.records.specs.declared.Point.{Point}
 use Rattle.records.specs.Codes.{nyiso, common, noncommon, unitSubject, zoneSubject, pointSubject, parSubject}
 use Rattle.records.specs.Content.{Content, head, point, par, factorFor}
 use Rattle.figures.specs.Balance.{zoneLoad, netLoad, output, grossOutput, netGeneration, finalGeneration}
@@ -60,12 +61,12 @@ unfoldable pub secondRemainder : Content → ℕ → ℤ
 secondRemainder c target = remainder (secondDividend c target) (netGeneration c)
 
 -- Step 4 (5.5)
-unfoldable pub netSchedule : Content → ℕ → ℤ
-netSchedule c i = pos (point c i .import) -ℤ pos (point c i .export)
+unfoldable pub netSchedule : Point → ℤ
+netSchedule p = pos (p .import) -ℤ pos (p .export)
 
 -- a point's flow on a target, if the point is of that type
 unfoldable pub scheduleTerm : Content → ℕ → ℕ → ℕ → ℤ
-scheduleTerm c type target i = cond (eqb (point c i .sort) type) (netSchedule c i *ℤ factor c target pointSubject i *ℤ pos 10) (pos 0)
+scheduleTerm c type target i = cond (eqb (point c i .sort) type) (netSchedule (point c i) *ℤ factor c target pointSubject i *ℤ pos 10) (pos 0)
 
 unfoldable pub scheduleFlow : Content → ℕ → ℕ → ℤ
 scheduleFlow c type target = sumTo (scheduleTerm c type target) (length (c .points))

@@ -17,6 +17,7 @@ use Rattle.records.specs.Content.{factorFor}
 use Rattle.sheet.specs.Sheet.{contentOf}
 use Rattle.sheet.proofs.Accepted.{counts}
 use Rattle.figures.specs.Flow.{generationToLoad, firstRemainder, secondRemainder, scheduleFlow, parallel, shadow, factor, parFactor, carriedSum, carried, redirect, nonCommonRedirect, marketFlow}
+use Rattle.figures.specs.inner.Most.{mostGenerationToLoad, mostSchedule, mostOnPar, mostOverPar, mostCarriedSum, mostCarried, mostControl, mostRedirect, mostMarket}
 use Rattle.figures.proofs.Bounds.{generation-to-load-small, first-remainder-small, second-remainder-small, carried-sum-small, carried-small, redirect-small, non-common-redirect-small, market-flow-small}
 use Rattle.figures.proofs.Factors.{par-factor-within}
 use Rattle.figures.proofs.Ranges.{schedule-flow-within, control-within}
@@ -37,11 +38,11 @@ other-code {k = k} {n = n} e h = ne-eqb k n (λ i. h (e ∙ i))
 
 module _ {s : List ℕ} {l : Layout} {b : Balance} {array : List ℤ} (r : Ready s l b array) where
   module _ {target : ℕ} (k : target ≤ l .pars) where
-    pub schedule-num : (class : ℕ) (x : ℤ) → x ≡ weightedSum (contentOf s) pointSubject class target → Num (rd x) (scheduleFlow (contentOf s) class target) 640000000000
-    schedule-num class x e = num-is x _ 640000000000 (e ∙ schedules-are (contentOf s) class target) (schedule-flow-within (is-valid r) (known r k) class) (lit< tt)
+    pub schedule-num : (class : ℕ) (x : ℤ) → x ≡ weightedSum (contentOf s) pointSubject class target → Num (rd x) (scheduleFlow (contentOf s) class target) mostSchedule
+    schedule-num class x e = num-is x _ mostSchedule (e ∙ schedules-are (contentOf s) class target) (schedule-flow-within (is-valid r) (known r k) class) (lit< tt)
 
-    pub gtl-num : (x : GenerationToLoad) → x ≡ flowFor (contentOf s) target → Num (rd (x .flow)) (generationToLoad (contentOf s) target) 400000000000
-    gtl-num x e = num-is (x .flow) _ 400000000000 (ap (λ (y : GenerationToLoad). y .flow) e) (generation-to-load-small (is-valid r) (r .passed) (known r k)) (lit< tt)
+    pub gtl-num : (x : GenerationToLoad) → x ≡ flowFor (contentOf s) target → Num (rd (x .flow)) (generationToLoad (contentOf s) target) mostGenerationToLoad
+    gtl-num x e = num-is (x .flow) _ mostGenerationToLoad (ap (λ (y : GenerationToLoad). y .flow) e) (generation-to-load-small (is-valid r) (r .passed) (known r k)) (lit< tt)
 
     first-num : (x : GenerationToLoad) → x ≡ flowFor (contentOf s) target → Num (rd (x .«first_remainder»)) (firstRemainder (contentOf s) target) 2000000
     first-num x e = num-is _ _ 2000000 (ap (λ (y : GenerationToLoad). y .«first_remainder») e) (first-remainder-small (is-valid r) (r .passed) (known r k)) (lit< tt)
@@ -60,29 +61,29 @@ module _ {s : List ℕ} {l : Layout} {b : Balance} {array : List ℤ} (r : Ready
 
     module _ (g : GenerationToLoad) (x f : ℤ) (eg : g ≡ flowFor (contentOf s) (i + 1)) (ex : x ≡ weightedSum (contentOf s) pointSubject noncommon (i + 1))
         (ef : f ≡ factorFor (contentOf s .factors) 0 4 (i + 1)) where
-      pub par-flow : Op (rd (g .flow) +ℤ rd x) (generationToLoad (contentOf s) (i + 1) +ℤ parallel (contentOf s) (i + 1)) 1040000000000
+      pub par-flow : Op (rd (g .flow) +ℤ rd x) (generationToLoad (contentOf s) (i + 1) +ℤ parallel (contentOf s) (i + 1)) mostOnPar
       unfolding parallel
       par-flow = add (gtl-num as-target g eg) (schedule-num as-target noncommon x ex) (lit< tt)
 
-      pub par-share : Op (rd f *ℤ rd (rd (g .flow) +ℤ rd x)) (parShare (contentOf s) i) 10400000000000000
+      pub par-share : Op (rd f *ℤ rd (rd (g .flow) +ℤ rd x)) (parShare (contentOf s) i) mostOverPar
       unfolding parFactor factor
       par-share =
           mul (num-is f _ 10000 ef (par-factor-within (is-valid r) i (omega (arith, counts s l (r .accepted) .pars))) (lit< tt)) (par-flow .num) (lit< tt)
 
   -- a class's redirect, from its carried sum and its control
   pub redirect-op : (class : ℕ) (x : ℤ) (q : Quotient) (y : ℤ) → x ≡ carriedSum (contentOf s) class → q .quotient ≡ quotient (rd x) (pos 10000) → y ≡ weightedSum (contentOf s) parSubject class 0 →
-      Op (rd (q .quotient) -ℤ rd y) (redirect (contentOf s) class) 8640000000000
+      Op (rd (q .quotient) -ℤ rd y) (redirect (contentOf s) class) mostRedirect
   unfolding redirect carried
   redirect-op class x q y ex eq ey =
-      let sum = num-is x _ 83200000000000000 ex (carried-sum-small (is-valid r) (r .passed) class) (lit< tt) in
-      sub (num-is (q .quotient) (carried (contentOf s) class) 8320000000000 (eq ∙ rw (sum .is)) (carried-small (is-valid r) (r .passed) class) (lit< tt))
-      (num-is y _ 320000000000 (ey ∙ control-is (contentOf s) class) (control-within (is-valid r) class) (lit< tt)) (lit< tt)
+      let sum = num-is x _ mostCarriedSum ex (carried-sum-small (is-valid r) (r .passed) class) (lit< tt) in
+      sub (num-is (q .quotient) (carried (contentOf s) class) mostCarried (eq ∙ rw (sum .is)) (carried-small (is-valid r) (r .passed) class) (lit< tt))
+      (num-is y _ mostControl (ey ∙ control-is (contentOf s) class) (control-within (is-valid r) class) (lit< tt)) (lit< tt)
 
-  pub redirect-num : (class : ℕ) (x : ℤ) → x ≡ redirect (contentOf s) class → Num (rd x) (redirect (contentOf s) class) 8640000000000
-  redirect-num class x e = num-is x _ 8640000000000 e (redirect-small (is-valid r) (r .passed) class) (lit< tt)
+  pub redirect-num : (class : ℕ) (x : ℤ) → x ≡ redirect (contentOf s) class → Num (rd x) (redirect (contentOf s) class) mostRedirect
+  redirect-num class x e = num-is x _ mostRedirect e (redirect-small (is-valid r) (r .passed) class) (lit< tt)
 
-  pub noncommon-num : (x : ℤ) → x ≡ nonCommonRedirect (contentOf s) → Num (rd x) (nonCommonRedirect (contentOf s)) 8640000000000
-  noncommon-num x e = num-is x _ 8640000000000 e (non-common-redirect-small (is-valid r) (r .passed)) (lit< tt)
+  pub noncommon-num : (x : ℤ) → x ≡ nonCommonRedirect (contentOf s) → Num (rd x) (nonCommonRedirect (contentOf s)) mostRedirect
+  noncommon-num x e = num-is x _ mostRedirect e (non-common-redirect-small (is-valid r) (r .passed)) (lit< tt)
 
   -- the flowgate's figures, as the calls return them
   module _ (g : GenerationToLoad) (x y z w : ℤ) (eg : g ≡ flowFor (contentOf s) 0) (ex : x ≡ weightedSum (contentOf s) pointSubject noncommon 0) (ey : y ≡ weightedSum (contentOf s) pointSubject common 0)
@@ -90,10 +91,10 @@ module _ {s : List ℕ} {l : Layout} {b : Balance} {array : List ℤ} (r : Ready
     flowgate : 0 ≤ l .pars
     flowgate = omega arith
 
-    market-num : (m : ℤ) → m ≡ rd (g .flow) +ℤ rd x +ℤ rd y -ℤ rd z -ℤ rd w → Num (rd m) (marketFlow (contentOf s)) 18960000000000
+    market-num : (m : ℤ) → m ≡ rd (g .flow) +ℤ rd x +ℤ rd y -ℤ rd z -ℤ rd w → Num (rd m) (marketFlow (contentOf s)) mostMarket
     unfolding marketFlow parallel shadow
     market-num m e =
-        num-is m (marketFlow (contentOf s)) 18960000000000
+        num-is m (marketFlow (contentOf s)) mostMarket
         (e ∙ rw (gtl-num flowgate g eg .is, schedule-num flowgate noncommon x ex .is, schedule-num flowgate common y ey .is, redirect-num common z ez .is, noncommon-num w ew .is))
         (market-flow-small (is-valid r) (r .passed)) (lit< tt)
 

@@ -16,9 +16,11 @@ use Rattle.integers.proofs.Sums.{sum-same}
 use Rattle.integers.proofs.Machine.{Op, rd, num-is, mul}
 use Rattle.due_factors.specs.Due.{Asked, howMany}
 use Rattle.layout.specs.declared.Layout.{Layout}
+use Rattle.records.specs.declared.Point.{Point}
+use Rattle.records.specs.declared.Par.{Par}
 use Rattle.records.specs.Codes.{unitSubject, zoneSubject, pointSubject, parSubject}
 use Rattle.records.specs.Content.{Content, point, par, factorFor}
-use Rattle.record_rows.specs.inner.Valid.{Valid}
+use Rattle.record_rows.specs.inner.Valid.{PointFits, ParFits, Valid}
 use Rattle.sheet.specs.declared.Outcome.the-variants.{Accepted}
 use Rattle.sheet.specs.Sheet.{readSheet, contentOf}
 use Rattle.sheet.proofs.Accepted.{valid, counts}
@@ -26,15 +28,15 @@ use Rattle.figures.specs.Balance.{zoneLoad, output}
 use Rattle.figures.specs.Flow.{factor, parFactor, outputTerm, weightedOutput, loadTerm, netSchedule, scheduleTerm, scheduleFlow, controlTerm, control}
 use Rattle.figures.proofs.Factors.{zone-factor-within}
 use Rattle.figures.proofs.Numbers.{cond-within, times-within}
-use Rattle.figures.proofs.Ranges.{output-within, zone-load-within}
+use Rattle.figures.proofs.Ranges.{output-within, zone-load-within, net-within}
 use Rattle.zone_sums.specs.inner.Ledger.{figureAt}
 use Rattle.zone_sums.proofs.Cells.{cell-at}
-use Rattle.weighted_sums.specs.inner.Weighted.{Lent, OnTarget, gapIn, powerOf, weightedTerm, members, weightedSum}
+use Rattle.weighted_sums.specs.inner.Weighted.{Lent, OnTarget, tenfoldIn, powerOf, weightedTerm, members, weightedSum}
 
 -- the class is asked before or after the factor
-gap-times : (b : Bool) (x f : ℤ) → cond b (x *ℤ pos 10) (pos 0) *ℤ f ≡ cond b (x *ℤ f *ℤ pos 10) (pos 0)
-gap-times true x f = simp zi (simp zo (omega zarith))
-gap-times false x f = simp zi (simp zo (omega zarith))
+tenfold-times : (b : Bool) (x f : ℤ) → cond b (x *ℤ pos 10) (pos 0) *ℤ f ≡ cond b (x *ℤ f *ℤ pos 10) (pos 0)
+tenfold-times true x f = simp zi (simp zo (omega zarith))
+tenfold-times false x f = simp zi (simp zo (omega zarith))
 
 module _ (c : Content) (class target : ℕ) where
   -- A
@@ -43,26 +45,33 @@ module _ (c : Content) (class target : ℕ) where
   outputs-are = refl
 
   pub schedules-are : weightedSum c pointSubject class target ≡ scheduleFlow c class target
-  unfolding weightedSum members howMany weightedTerm powerOf gapIn scheduleFlow scheduleTerm netSchedule
-  schedules-are = sum-same _ _ (length (c .points)) (λ i l. gap-times (eqb (point c i .sort) class) (pos (point c i .import) -ℤ pos (point c i .export)) (factor c target pointSubject i))
+  unfolding weightedSum members howMany weightedTerm powerOf tenfoldIn scheduleFlow scheduleTerm
+  schedules-are = sum-same _ _ (length (c .points)) (λ i l. tenfold-times (eqb (point c i .sort) class) (netSchedule (point c i)) (factor c target pointSubject i))
 
 pub control-is : (c : Content) (class : ℕ) → weightedSum c parSubject class 0 ≡ control c class
-unfolding weightedSum members howMany weightedTerm powerOf gapIn control controlTerm parFactor
-control-is c class = sum-same _ _ (length (c .pars)) (λ i l. gap-times (eqb (par c i .class) class) (par c i .actual -ℤ par c i .target) (factor c 0 parSubject i))
+unfolding weightedSum members howMany weightedTerm powerOf tenfoldIn control controlTerm parFactor
+control-is c class = sum-same _ _ (length (c .pars)) (λ i l. tenfold-times (eqb (par c i .class) class) (par c i .actual -ℤ par c i .target) (factor c 0 parSubject i))
 
-gap-within : (of class : ℕ) (x y : ℤ) → natAbs x ≤ 200000 → natAbs y ≤ 200000 → natAbs (gapIn of class x y) ≤ 4000000
-unfolding gapIn
-gap-within of class x y h k = cond-within (eqb of class) ((x -ℤ y) *ℤ pos 10) (times-within (x -ℤ y) (pos 10) {a = 400000} (omega (arith, abs-sub x y)) (le-refl 10))
+pub over-within : {p : Par} → ParFits p → natAbs (p .actual -ℤ p .target) ≤ 400000
+over-within {p} f = omega (arith, abs-sub (p .actual) (p .target), f .actual, f .target)
+
+-- what a point and a PAR bring is no larger than `tenfold_in` asks
+pub scheduled-within : {zones : ℕ} {p : Point} → PointFits zones p → natAbs (netSchedule p) ≤ 400000
+scheduled-within f = le-trans (net-within f) (lit≤ tt)
+
+tenfold-within : (of class : ℕ) (x : ℤ) → natAbs x ≤ 400000 → natAbs (tenfoldIn of class x) ≤ 4000000
+unfolding tenfoldIn
+tenfold-within of class x h = cond-within (eqb of class) (x *ℤ pos 10) (times-within x (pos 10) h (le-refl 10))
 
 power-within : {c : Content} → Valid c → (subject class i : ℕ) → (subject ≡ 2 → ⊥) → i < members c subject → natAbs (powerOf c subject class i) ≤ 4000000
 unfolding members howMany powerOf
 power-within {c} v subject class i o = by (eqb subject 1) (eqb subject 3)
   where
     by : (p r : Bool) → i < cond p (length (c .units)) (cond (eqb subject 2) (length (c .zones)) (cond r (length (c .points)) (length (c .pars)))) →
-        natAbs (cond p (output c i) (cond r (gapIn (point c i .sort) class (pos (point c i .import)) (pos (point c i .export))) (gapIn (par c i .class) class (par c i .actual) (par c i .target)))) ≤ 4000000
+        natAbs (cond p (output c i) (cond r (tenfoldIn (point c i .sort) class (netSchedule (point c i))) (tenfoldIn (par c i .class) class (par c i .actual -ℤ par c i .target)))) ≤ 4000000
     by true r l = le-trans (output-within v i l) (lit≤ tt)
-    by false true l = let k = rw (ne-eqb subject 2 o) at l in let p = v .point-fits i k in gap-within (point c i .sort) class (pos (point c i .import)) (pos (point c i .export)) (p .import) (p .export)
-    by false false l = let k = rw (ne-eqb subject 2 o) at l in let p = v .par-fits i k in gap-within (par c i .class) class (par c i .actual) (par c i .target) (p .actual) (p .target)
+    by false true l = tenfold-within (point c i .sort) class (netSchedule (point c i)) (scheduled-within (v .point-fits i (rw (ne-eqb subject 2 o) at l)))
+    by false false l = tenfold-within (par c i .class) class (par c i .actual -ℤ par c i .target) (over-within (v .par-fits i (rw (ne-eqb subject 2 o) at l)))
 
 -- what the layout of an accepted sheet counts is what its content has
 module _ (s : List ℕ) (l : Layout) (e : readSheet s ≡ Accepted l) where

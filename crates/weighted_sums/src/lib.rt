@@ -2,13 +2,15 @@
 // What a unit, point or PAR brings stands in its record; a zone brings its zone load, which is lent.
 ghost use mathlib.Core.Path.{_≡_};
 ghost use Prim.Native.Nat.{_<_, _≤_};
-ghost use lib.IntN.{natAbs};
+ghost use lib.IntN.{natAbs, _-ℤ_};
 ghost use Rattle.due_factors.specs.Due.{Asked, howMany};
 ghost use Rattle.records.specs.Codes.{unitSubject, zoneSubject, pointSubject, parSubject};
 ghost use Rattle.sheet.specs.Sheet.{readSheet, contentOf};
 ghost use Rattle.sheet.specs.declared.Outcome.the-variants.{Accepted};
-ghost use Rattle.figures.specs.Flow.{loadTerm, weightedLoad};
-ghost use Rattle.weighted_sums.specs.inner.Weighted.{Lent, OnTarget, gapIn, powerOf, weightedTerm, weightedSum};
+ghost use Rattle.figures.specs.Flow.{loadTerm, weightedLoad, netSchedule};
+ghost use Rattle.weighted_sums.specs.inner.Weighted.{Lent, OnTarget, tenfoldIn, powerOf, weightedTerm, weightedSum};
+use records::Par;
+use records::Point;
 
 fn how_many(l: layout::Layout, subject: u8) -> usize
     requires { ⌜ (subject ≡ zoneSubject → ⊥) ⌝ }
@@ -23,15 +25,27 @@ fn how_many(l: layout::Layout, subject: u8) -> usize
     l.pars
 }
 
-// Ten times the difference of a record's two powers, if the record is of the class asked.
-fn gap_in(of: u8, class: u8, plus: i64, minus: i64) -> i64
-    requires { ⌜ (natAbs plus ≤ 200000) × (natAbs minus ≤ 200000) ⌝ }
-    ensures { λ r. ⌜ r ≡ gapIn of class plus minus ⌝ }
+// Ten times a record's power, if the record is of the class asked.
+fn tenfold_in(of: u8, class: u8, power: i64) -> i64
+    requires { ⌜ natAbs power ≤ 400000 ⌝ }
+    ensures { λ r. ⌜ r ≡ tenfoldIn of class power ⌝ }
 {
     if of != class {
         return 0;
     }
-    (plus - minus) * 10
+    power * 10
+}
+
+fn net_schedule(p: Point) -> i64
+    ensures { λ r. ⌜ r ≡ netSchedule p ⌝ }
+{
+    p.import as i64 - p.export as i64
+}
+
+fn over_target(p: Par) -> i64
+    ensures { λ r. ⌜ r ≡ p .actual -ℤ p .target ⌝ }
+{
+    p.actual as i64 - p.target as i64
 }
 
 fn unit_power(s: &[u8], l: layout::Layout, class: u8, i: usize) -> i64
@@ -47,7 +61,7 @@ fn point_power(s: &[u8], l: layout::Layout, class: u8, i: usize) -> i64
     ensures { λ r. ⌜ r ≡ powerOf (contentOf (now (s .entry))) pointSubject class i ⌝ }
 {
     let p = sheet_records::point_at(s, l, i);
-    gap_in(p.sort, class, p.import as i64, p.export as i64)
+    tenfold_in(p.sort, class, net_schedule(p))
 }
 
 fn par_power(s: &[u8], l: layout::Layout, class: u8, i: usize) -> i64
@@ -55,7 +69,7 @@ fn par_power(s: &[u8], l: layout::Layout, class: u8, i: usize) -> i64
     ensures { λ r. ⌜ r ≡ powerOf (contentOf (now (s .entry))) parSubject class i ⌝ }
 {
     let p = sheet_records::par_at(s, l, i);
-    gap_in(p.class, class, p.actual as i64, p.target as i64)
+    tenfold_in(p.class, class, over_target(p))
 }
 
 fn power_of(s: &[u8], l: layout::Layout, subject: u8, class: u8, i: usize) -> i64

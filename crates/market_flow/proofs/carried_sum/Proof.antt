@@ -12,6 +12,7 @@ use Rattle.integers.proofs.Sums.{sum-zero, next}
 use Rattle.sheet.specs.Sheet.{contentOf}
 use Rattle.sheet.proofs.Accepted.{counts}
 use Rattle.figures.specs.Flow.{carriedTerm, carriedSum}
+use Rattle.figures.specs.inner.Most.{mostOverPar}
 use Rattle.figures.proofs.Bounds.{carried-term-small}
 use Rattle.generation_to_load.proofs.Laws.{is-valid}
 use Rattle.market_flow.proofs.carried_sum.Statement.{statement}
@@ -29,12 +30,12 @@ few p = omega (arith, counts _ _ (p .pre .accepted) .pars, is-valid (p .pre) .pa
 step : (c : tie.After-carried-term Inv-loop μ-loop) →
     let t = c .before .before in
     let a = t .before .before .args in
-    Op (toZ w64 (t .loop .sum) +ℤ rd (c .carried-term .result)) (sumTo (carriedTerm (contentOf (now (a .s))) (a .class)) (t .loop .i + 1)) ((t .loop .i + 1) * 10400000000000000)
+    Op (toZ w64 (t .loop .sum) +ℤ rd (c .carried-term .result)) (sumTo (carriedTerm (contentOf (now (a .s))) (a .class)) (t .loop .i + 1)) ((t .loop .i + 1) * mostOverPar)
 step c =
     let t = c .before .before in
     let p = t .before .before in
     let a = p .args in
-    next (carriedTerm (contentOf (now (a .s))) (a .class)) 10400000000000000 (a .l .pars) (t .loop .i)
+    next (carriedTerm (contentOf (now (a .s))) (a .class)) mostOverPar (a .l .pars) (t .loop .i)
     (λ k l. carried-term-small (is-valid (p .pre)) (p .pre .passed) (a .class) k (omega (arith, counts _ _ (p .pre .accepted) .pars)))
     (omega (arith, few p)) (c .before .loop-test .taken) (t .loop .inv .1) (c .carried-term .ensures)
 

@@ -5,6 +5,7 @@ use denote.Ref.{now}
 use Rattle.integers.proofs.Machine.{Op, rd}
 use Rattle.sheet.specs.Sheet.{contentOf}
 use Rattle.figures.specs.Flow.{redirect}
+use Rattle.figures.specs.inner.Most.{mostRedirect}
 use Rattle.market_flow.proofs.Laws.{redirect-op}
 use Rattle.market_flow.proofs.redirect.Statement.{statement}
 use Rattle.market_flow.proofs.redirect.Tie as tie
@@ -22,7 +23,7 @@ less : (c : tie.After-struct-told) →
     let w = c .before .before in
     let q = w .before in
     let a = q .before .before .before .args in
-    Op (rd (q .rounded-quotient .result .quotient) -ℤ rd (w .weighted .result)) (redirect (contentOf (now (a .s))) (a .class)) 8640000000000
+    Op (rd (q .rounded-quotient .result .quotient) -ℤ rd (w .weighted .result)) (redirect (contentOf (now (a .s))) (a .class)) mostRedirect
 less c =
     let w = c .before .before in
     let q = w .before in

@@ -15,7 +15,7 @@ use Rattle.records.specs.Content.{Content, point, par}
 use Rattle.sheet.specs.declared.Outcome.the-variants.{Accepted}
 use Rattle.sheet.specs.Sheet.{readSheet, contentOf}
 use Rattle.figures.specs.Balance.{output}
-use Rattle.figures.specs.Flow.{factor}
+use Rattle.figures.specs.Flow.{factor, netSchedule}
 use Rattle.zone_sums.specs.ByZone.{zoneLoads}
 
 -- an accepted sheet with its layout, and its zone loads
@@ -31,16 +31,16 @@ pub record OnTarget (pars target subject : ℕ) : Type 0 where
   pub other : subject ≡ zoneSubject → ⊥
   pub par : subject ≡ parSubject → target ≡ 0
 
--- ten times the difference of a record's two powers, if the record is of the class asked
-unfoldable pub gapIn : ℕ → ℕ → ℤ → ℤ → ℤ
-gapIn of class plus minus = cond (eqb of class) ((plus -ℤ minus) *ℤ pos 10) (pos 0)
+-- ten times a record's power, if the record is of the class asked
+unfoldable pub tenfoldIn : ℕ → ℕ → ℤ → ℤ
+tenfoldIn of class power = cond (eqb of class) (power *ℤ pos 10) (pos 0)
 
 -- a unit's output, ten times a point's net schedule, ten times what a PAR's actual flow has more than its target
 unfoldable pub powerOf : Content → ℕ → ℕ → ℕ → ℤ
 powerOf c subject class i =
     cond (eqb subject unitSubject) (output c i)
-    (cond (eqb subject pointSubject) (gapIn (point c i .sort) class (pos (point c i .import)) (pos (point c i .export)))
-    (gapIn (par c i .class) class (par c i .actual) (par c i .target)))
+    (cond (eqb subject pointSubject) (tenfoldIn (point c i .sort) class (netSchedule (point c i)))
+    (tenfoldIn (par c i .class) class (par c i .actual -ℤ par c i .target)))
 
 unfoldable pub weightedTerm : Content → ℕ → ℕ → ℕ → ℕ → ℤ
 weightedTerm c subject class target i = powerOf c subject class i *ℤ factor c target subject i
