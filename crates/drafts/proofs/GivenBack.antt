@@ -8,6 +8,7 @@ use Rattle.records.specs.declared.Place.{Place}
 use Rattle.records.specs.declared.Place.the-variants.{Proxy, Line}
 use Rattle.records.specs.declared.Point.{Point}
 use Rattle.records.specs.Content.{Content, noZone, noUnit, noPar, noFactor, head}
+use Rattle.records.specs.inner.Places.{atPlace}
 use Rattle.drafts.specs.Draft.{placeGiven, pointGiven, given, drafted, noDraftPoint, cells, draftOf}
 
 -- the cells before the zeros
@@ -19,7 +20,7 @@ place-back p Proxy e = rw e refl
 place-back p (Line n) e = rw e refl
 
 point-back : (p : Point) → pointGiven (drafted p) ≡ p
-point-back p = ap (λ (place : Place). record { name = p .name; sort = p .sort; place = place; import = p .import; export = p .export }) (place-back p (p .place) refl)
+point-back p = ap (atPlace p) (place-back p (p .place) refl)
 
 points-back : (l : List Point) → map pointGiven (map drafted l) ≡ l
 points-back [] = refl

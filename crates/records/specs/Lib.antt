@@ -1,3 +1,4 @@
 pub mod Codes
 pub mod Bodies
 pub mod Content
+pub mod inner

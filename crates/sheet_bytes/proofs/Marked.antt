@@ -12,6 +12,7 @@ use Rattle.records.specs.declared.Place.{Place}
 use Rattle.records.specs.declared.Place.the-variants.{Proxy, Line}
 use Rattle.records.specs.declared.Point.{Point}
 use Rattle.records.specs.Content.{Content}
+use Rattle.records.specs.inner.Places.{atPlace}
 use Rattle.field_rows.specs.FieldRows.{noZoneOf, placeUnknown}
 use Rattle.record_rows.specs.Rows.{oneTooMany, pointRow, lastRow}
 use Rattle.record_rows.specs.inner.Valid.{LineFits}
@@ -53,7 +54,7 @@ unmarked-point : (zones : ℕ) (before : List Point) (p : Point) → namedRow 4 
 unmarked-point zones before p e =
     let repeated = seenBefore (map (λ (p : Point). p .name) before) (p .name) in
     let f = point-pass zones repeated p (row-pass 4 (oneTooMany 4 (length before)) (pointRow zones repeated p) e .1) .fits in
-    ap (λ (place : Place). record { name = p .name; sort = p .sort; place = place; import = p .import; export = p .export }) (unmarked-place zones (p .place) (f .place))
+    ap (atPlace p) (unmarked-place zones (p .place) (f .place))
 
 unmarked-points : (zones : ℕ) (l : List Point) → Each (λ (p : Point). (b : List Point) × (namedRow 4 (λ (p : Point). p .name) (pointRow zones) b p ≡ 0)) l → map markedPoint l ≡ l
 unmarked-points zones [] h = refl

@@ -7,6 +7,7 @@ use Rattle.records.specs.declared.Place.{Place}
 use Rattle.records.specs.declared.Place.the-variants.{Proxy, Line}
 use Rattle.records.specs.declared.Point.{Point}
 use Rattle.records.specs.Content.{Content}
+use Rattle.records.specs.inner.Places.{atPlace}
 
 -- a zone that no sheet has
 abbrev pub nowhere : ℕ
@@ -20,7 +21,7 @@ markedPlace Proxy = Proxy
 markedPlace (Line n) = Line (markedZone n)
 
 abbrev pub markedPoint : Point → Point
-markedPoint p = record { name = p .name; sort = p .sort; place = markedPlace (p .place); import = p .import; export = p .export }
+markedPoint p = atPlace p (markedPlace (p .place))
 
 abbrev pub marked : Content → Content
 marked c = record { heads = c .heads; zones = c .zones; units = c .units; points = map markedPoint (c .points); pars = c .pars; factors = c .factors }
