@@ -5,6 +5,7 @@ ghost use mathlib.Core.List.{_∷_, []};
 ghost use Prim.Native.Nat.{_≤_};
 ghost use lib.ListN.{length};
 ghost use Rattle.writers.specs.inner.Wrote.{Wrote};
+ghost use Rattle.record_table.specs.inner.Sizes.{size};
 ghost use Rattle.records.specs.Bodies.{pointOf, parOf, factorOf};
 ghost use Rattle.drafts.specs.Draft.{placeGiven, pointGiven};
 ghost use Rattle.sheet_bytes.specs.SheetBytes.{placeByte, pointBody, parBody, factorBody};
@@ -42,9 +43,9 @@ fn put_place(p: DraftPoint, out: &mut [u8]) -> usize
 }
 
 pub fn put_point(p: DraftPoint, out: &mut [u8]) -> usize
-    requires { ⌜ 27 ≤ length (now out) ⌝ }
+    requires { ⌜ size 4 ≤ length (now out) ⌝ }
     ensures { λ r. ⌜ Wrote (4 ∷ pointBody (markedPoint (pointGiven p))) (now (out .entry)) (now (out .exit)) r ⌝ }
-    ensures { λ r. ⌜ r ≡ 27 ⌝ }
+    ensures { λ r. ⌜ r ≡ size 4 ⌝ }
     ensures { λ _. ⌜ Returns 4 pointBody pointOf (markedPoint (pointGiven p)) ⌝ }
 {
     let name = p.name;
@@ -57,9 +58,9 @@ pub fn put_point(p: DraftPoint, out: &mut [u8]) -> usize
 }
 
 pub fn put_par(p: Par, out: &mut [u8]) -> usize
-    requires { ⌜ 26 ≤ length (now out) ⌝ }
+    requires { ⌜ size 5 ≤ length (now out) ⌝ }
     ensures { λ r. ⌜ Wrote (5 ∷ parBody p) (now (out .entry)) (now (out .exit)) r ⌝ }
-    ensures { λ r. ⌜ r ≡ 26 ⌝ }
+    ensures { λ r. ⌜ r ≡ size 5 ⌝ }
     ensures { λ _. ⌜ Returns 5 parBody parOf p ⌝ }
 {
     let name = p.name;
@@ -71,9 +72,9 @@ pub fn put_par(p: Par, out: &mut [u8]) -> usize
 }
 
 pub fn put_factor(f: Factor, out: &mut [u8]) -> usize
-    requires { ⌜ 7 ≤ length (now out) ⌝ }
+    requires { ⌜ size 6 ≤ length (now out) ⌝ }
     ensures { λ r. ⌜ Wrote (6 ∷ factorBody f) (now (out .entry)) (now (out .exit)) r ⌝ }
-    ensures { λ r. ⌜ r ≡ 7 ⌝ }
+    ensures { λ r. ⌜ r ≡ size 6 ⌝ }
     ensures { λ _. ⌜ Returns 6 factorBody factorOf f ⌝ }
 {
     let mut n = put8(record_table::FACTOR_KIND, out);

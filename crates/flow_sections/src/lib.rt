@@ -5,6 +5,7 @@ ghost use mathlib.Core.List.{_++_, map};
 ghost use Prim.Native.Nat.{_+_, _*_, _≤_};
 ghost use lib.ListN.{length, take};
 ghost use Rattle.writers.specs.inner.Wrote.{Wrote};
+ghost use Rattle.record_table.specs.inner.Sizes.{size};
 ghost use Rattle.records.specs.Bodies.{pointOf, parOf, factorOf};
 ghost use Rattle.drafts.specs.Draft.{pointGiven};
 ghost use Rattle.sheet_bytes.specs.SheetBytes.{pointBody, parBody, factorBody, all};
@@ -15,9 +16,9 @@ use records::Factor;
 use records::Par;
 
 pub fn put_points(points: [DraftPoint; drafts::POINTS], n: usize, out: &mut [u8]) -> usize
-    requires { ⌜ (n ≤ 33) × (27 * n ≤ length (now out)) ⌝ }
+    requires { ⌜ (n ≤ 33) × (size 4 * n ≤ length (now out)) ⌝ }
     ensures { λ r. ⌜ Wrote (all 4 pointBody (map markedPoint (map pointGiven (take n points)))) (now (out .entry)) (now (out .exit)) r ⌝ }
-    ensures { λ r. ⌜ r ≡ 27 * n ⌝ }
+    ensures { λ r. ⌜ r ≡ size 4 * n ⌝ }
     ensures { λ _. ⌜ Each (Returns 4 pointBody pointOf) (map markedPoint (map pointGiven (take n points))) ⌝ }
 {
     let mut at = 0;
@@ -31,9 +32,9 @@ pub fn put_points(points: [DraftPoint; drafts::POINTS], n: usize, out: &mut [u8]
 }
 
 pub fn put_pars(pars: [Par; drafts::PARS], n: usize, out: &mut [u8]) -> usize
-    requires { ⌜ (n ≤ 9) × (26 * n ≤ length (now out)) ⌝ }
+    requires { ⌜ (n ≤ 9) × (size 5 * n ≤ length (now out)) ⌝ }
     ensures { λ r. ⌜ Wrote (all 5 parBody (take n pars)) (now (out .entry)) (now (out .exit)) r ⌝ }
-    ensures { λ r. ⌜ r ≡ 26 * n ⌝ }
+    ensures { λ r. ⌜ r ≡ size 5 * n ⌝ }
     ensures { λ _. ⌜ Each (Returns 5 parBody parOf) (take n pars) ⌝ }
 {
     let mut at = 0;
@@ -47,9 +48,9 @@ pub fn put_pars(pars: [Par; drafts::PARS], n: usize, out: &mut [u8]) -> usize
 }
 
 pub fn put_factors(factors: [Factor; drafts::FACTORS], n: usize, out: &mut [u8]) -> usize
-    requires { ⌜ (n ≤ 2889) × (7 * n ≤ length (now out)) ⌝ }
+    requires { ⌜ (n ≤ 2889) × (size 6 * n ≤ length (now out)) ⌝ }
     ensures { λ r. ⌜ Wrote (all 6 factorBody (take n factors)) (now (out .entry)) (now (out .exit)) r ⌝ }
-    ensures { λ r. ⌜ r ≡ 7 * n ⌝ }
+    ensures { λ r. ⌜ r ≡ size 6 * n ⌝ }
     ensures { λ _. ⌜ Each (Returns 6 factorBody factorOf) (take n factors) ⌝ }
 {
     let mut at = 0;
@@ -72,9 +73,9 @@ pub fn put_flows(
     f: usize,
     out: &mut [u8],
 ) -> usize
-    requires { ⌜ (p ≤ 33) × (a ≤ 9) × (f ≤ 2889) × (27 * p + 26 * a + 7 * f ≤ length (now out)) ⌝ }
+    requires { ⌜ (p ≤ 33) × (a ≤ 9) × (f ≤ 2889) × (size 4 * p + size 5 * a + size 6 * f ≤ length (now out)) ⌝ }
     ensures { λ r. ⌜ Wrote (all 4 pointBody (map markedPoint (map pointGiven (take p points))) ++ all 5 parBody (take a pars) ++ all 6 factorBody (take f factors)) (now (out .entry)) (now (out .exit)) r ⌝ }
-    ensures { λ r. ⌜ r ≡ 27 * p + 26 * a + 7 * f ⌝ }
+    ensures { λ r. ⌜ r ≡ size 4 * p + size 5 * a + size 6 * f ⌝ }
     ensures { λ _. ⌜ Each (Returns 4 pointBody pointOf) (map markedPoint (map pointGiven (take p points))) × Each (Returns 5 parBody parOf) (take a pars) × Each (Returns 6 factorBody factorOf) (take f factors) ⌝ }
 {
     let mut n = put_points(points, p, out);

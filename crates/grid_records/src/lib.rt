@@ -5,6 +5,7 @@ ghost use mathlib.Core.List.{_∷_};
 ghost use Prim.Native.Nat.{_≤_};
 ghost use lib.ListN.{length};
 ghost use Rattle.writers.specs.inner.Wrote.{Wrote};
+ghost use Rattle.record_table.specs.inner.Sizes.{size};
 ghost use Rattle.records.specs.Bodies.{headOf, zoneOf, unitOf};
 ghost use Rattle.sheet_bytes.specs.SheetBytes.{headBody, zoneBody, unitBody};
 ghost use Rattle.sheet_bytes.specs.inner.Returns.{Returns};
@@ -17,9 +18,9 @@ use records::Unit;
 use records::Zone;
 
 pub fn put_head(h: Head, out: &mut [u8]) -> usize
-    requires { ⌜ 28 ≤ length (now out) ⌝ }
+    requires { ⌜ size 1 ≤ length (now out) ⌝ }
     ensures { λ r. ⌜ Wrote (1 ∷ headBody h) (now (out .entry)) (now (out .exit)) r ⌝ }
-    ensures { λ r. ⌜ r ≡ 28 ⌝ }
+    ensures { λ r. ⌜ r ≡ size 1 ⌝ }
     ensures { λ _. ⌜ Returns 1 headBody headOf h ⌝ }
 {
     let name = h.name;
@@ -32,9 +33,9 @@ pub fn put_head(h: Head, out: &mut [u8]) -> usize
 }
 
 pub fn put_zone(z: Zone, out: &mut [u8]) -> usize
-    requires { ⌜ 25 ≤ length (now out) ⌝ }
+    requires { ⌜ size 2 ≤ length (now out) ⌝ }
     ensures { λ r. ⌜ Wrote (2 ∷ zoneBody z) (now (out .entry)) (now (out .exit)) r ⌝ }
-    ensures { λ r. ⌜ r ≡ 25 ⌝ }
+    ensures { λ r. ⌜ r ≡ size 2 ⌝ }
     ensures { λ _. ⌜ Returns 2 zoneBody zoneOf z ⌝ }
 {
     let name = z.name;
@@ -45,9 +46,9 @@ pub fn put_zone(z: Zone, out: &mut [u8]) -> usize
 }
 
 pub fn put_unit(u: Unit, out: &mut [u8]) -> usize
-    requires { ⌜ 22 ≤ length (now out) ⌝ }
+    requires { ⌜ size 3 ≤ length (now out) ⌝ }
     ensures { λ r. ⌜ Wrote (3 ∷ unitBody u) (now (out .entry)) (now (out .exit)) r ⌝ }
-    ensures { λ r. ⌜ r ≡ 22 ⌝ }
+    ensures { λ r. ⌜ r ≡ size 3 ⌝ }
     ensures { λ _. ⌜ Returns 3 unitBody unitOf u ⌝ }
 {
     let name = u.name;

@@ -14,8 +14,9 @@ use Rattle.record_table.specs.Table.{kindOf, bodyLength, bodyIn}
 use Rattle.records.specs.Bodies.{headOf, zoneOf, unitOf, pointOf, parOf}
 use Rattle.records.specs.Content.{namesOf}
 use Rattle.record_rows.specs.Rows.{repeats}
+use Rattle.record_table.specs.inner.Sizes.{size}
 use Rattle.layout.specs.declared.Layout.{Layout}
-use Rattle.layout.specs.inner.Places.{count, size, firstOf, startOf, bodyAt, contentAt}
+use Rattle.layout.specs.inner.Places.{count, firstOf, startOf, bodyAt, contentAt}
 use Rattle.record_table.proofs.ByKind.{kinds, name-room}
 
 seen-snoc : (x : List ℕ) (l : List (List ℕ)) (y : List ℕ) → seenBefore (l ++ (y ∷ [])) x ≡ (seenBefore l x || sameList y x)

@@ -6,8 +6,9 @@ use native.Mathlib.Omega.{arith}
 use lib.Dec.{eqb}
 use borrow.Author.Tests.{ne-eqb}
 use Rattle.integers.proofs.Cases.{below-or}
+use Rattle.record_table.specs.inner.Sizes.{size}
 use Rattle.layout.specs.declared.Layout.{Layout}
-use Rattle.layout.specs.inner.Places.{one, count, counted, size, firstOf, startOf, extent}
+use Rattle.layout.specs.inner.Places.{one, count, counted, firstOf, startOf, extent}
 use Rattle.record_table.proofs.ByKind.{kinds}
 
 -- one more of a kind
@@ -47,7 +48,7 @@ first-flat l k (suc n) g h =
     (λ a. let e : n ≡ k = omega arith in rw e)
 
 module _ (l : Layout) where
-  pub extent-is : extent l ≡ 28 * l .heads + 25 * l .zones + 22 * l .units + 27 * l .points + 26 * l .pars + 7 * l .factors
+  pub extent-is : extent l ≡ size 1 * l .heads + size 2 * l .zones + size 3 * l .units + size 4 * l .points + size 5 * l .pars + size 6 * l .factors
   unfolding firstOf
   extent-is = omega arith
 

@@ -4,7 +4,8 @@ ghost use Prim.Native.Nat.{_+_, _*_, _≤_, _<_, _^_};
 ghost use lib.ListN.{length, drop};
 ghost use Rattle.record_table.specs.Table.{lastKind, bodyLength, bodyIn};
 ghost use Rattle.record_rows.specs.Rows.{repeats};
-ghost use Rattle.layout.specs.inner.Places.{countsIn, one, count, counted, size, firstOf, startOf, extent, bodyAt, contentAt, Allowed};
+ghost use Rattle.record_table.specs.inner.Sizes.{size, mostSize};
+ghost use Rattle.layout.specs.inner.Places.{countsIn, one, count, counted, firstOf, startOf, extent, bodyAt, contentAt, Allowed};
 ghost use Rattle.layout.specs.inner.Listed.{named, mostNamed, runOf, Listed};
 ghost use Rattle.name_index.specs.inner.Index.{withNext};
 use due_factors::Counts;
@@ -57,7 +58,7 @@ pub fn counts_in(l: Layout) -> Counts
 }
 
 fn size_of(kind: u8) -> usize
-    ensures { λ r. ⌜ (r ≡ size kind) × (r ≤ 28) ⌝ }
+    ensures { λ r. ⌜ (r ≡ size kind) × (r ≤ mostSize) ⌝ }
 {
     record_table::body_length(kind) + 1
 }

@@ -1,5 +1,5 @@
 -- Cases by kind.
-use Prim.Native.Nat.{ℕ, zero, suc, _≤_}
+use Prim.Native.Nat.{ℕ, zero, suc, _+_, _≤_}
 use mathlib.Core.Path.{_≡_, refl}
 use mathlib.Core.Bool.{Bool, true, false, not, _&&_, _||_}
 use mathlib.Core.List.{List, [], _∷_}
@@ -10,6 +10,7 @@ use borrow.Author.Tests.{leb-true}
 use Rattle.integers.proofs.Cases.{below-or}
 use Rattle.rows.proofs.NotMet.{both}
 use Rattle.record_table.specs.Table.{byKind, total, bodyLength, KindRow, noKind, kindRows, kindOf, lastKind}
+use Rattle.record_table.specs.inner.Sizes.{size, mostSize}
 
 -- a fact of each kind
 pub kinds : (P : ℕ → Type 0) → P 1 → P 2 → P 3 → P 4 → P 5 → P 6 → (kind : ℕ) → 1 ≤ kind → kind ≤ lastKind → P kind
@@ -45,9 +46,9 @@ module _ {A : Type 0} (none : A) where
   checked f es p z zero = z
   checked f es p z (suc k) = tested f es p z k
 
-pub length-most : (kind : ℕ) → bodyLength kind ≤ 27
+pub size-most : (kind : ℕ) → size kind ≤ mostSize
 unfolding passing
-length-most k = leb-true _ _ (checked noKind (λ (r : KindRow). leb (total (r .fields)) 27) kindRows refl refl k)
+size-most k = leb-true _ _ (checked noKind (λ (r : KindRow). leb (total (r .fields) + 1) mostSize) kindRows refl refl k)
 
 implied : (a b : Bool) → (not a || b) ≡ true → a ≡ true → b ≡ true
 implied true b p q = p

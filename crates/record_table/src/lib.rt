@@ -15,7 +15,17 @@ pub const PAR_KIND: u8 = 5;
 
 pub const FACTOR_KIND: u8 = 6;
 
-// How many bytes a factor's body has.
+// How many bytes a body of a kind has.
+pub const HEAD_BODY: usize = 27;
+
+pub const ZONE_BODY: usize = 24;
+
+pub const UNIT_BODY: usize = 21;
+
+pub const POINT_BODY: usize = 26;
+
+pub const PAR_BODY: usize = 25;
+
 pub const FACTOR_BODY: usize = 6;
 
 // How many records of a kind there may be.
@@ -33,11 +43,11 @@ pub fn body_length(kind: u8) -> usize
     ensures { λ r. ⌜ r ≡ bodyLength kind ⌝ }
 {
     match kind {
-        1 => 27,
-        2 => 24,
-        3 => 21,
-        4 => 26,
-        5 => 25,
+        1 => HEAD_BODY,
+        2 => ZONE_BODY,
+        3 => UNIT_BODY,
+        4 => POINT_BODY,
+        5 => PAR_BODY,
         6 => FACTOR_BODY,
         _ => 0,
     }

@@ -7,6 +7,7 @@ use Rattle.records.specs.Content.{Content}
 use Rattle.sheet.specs.declared.Outcome.{Outcome}
 use Rattle.sheet.specs.declared.Outcome.the-variants.{Accepted, Refused}
 use Rattle.sheet.specs.Sheet.{readSheet, contentOf}
+use Rattle.sheet.specs.inner.Longest.{deciding}
 use Rattle.sheet.proofs.Long as sheets
 use Rattle.entitlements.proofs.Answers as lists
 use Rattle.settlement.specs.declared.Interval.{Interval}
@@ -19,7 +20,7 @@ list-part c part sheet list m (Accepted l) h = rw (lists.first-bytes-enough list
 list-part c part sheet list m (Refused row place) h = refl
 
 -- the longest sheet and its next record decide, and so do 2,500 records of the list and one byte more
-pub long : (sheet list : List ℕ) (n m : ℕ) → 27776 ≤ n → 52500 < m → settled (take n sheet) (take m list) ≡ settled sheet list
+pub long : (sheet list : List ℕ) (n m : ℕ) → deciding ≤ n → 52500 < m → settled (take n sheet) (take m list) ≡ settled sheet list
 unfolding settled
 long sheet list n m g h =
     ap (λ (i : Interval). i .statement)

@@ -11,7 +11,7 @@ use Rattle.fields.specs.Fields.{byteAt}
 use Rattle.integers.proofs.Cases.{below-or}
 use Rattle.record_table.specs.Table.{bodyLength, bodyIn}
 use Rattle.records.specs.Content.{Content, noContent}
-use Rattle.record_table.proofs.ByKind.{length-most}
+use Rattle.record_table.proofs.ByKind.{size-most}
 use Rattle.due_factors.proofs.DueList.{length-due, per-most}
 use Rattle.record_rows.specs.Rows.{recordRow, frontRow, firstRow}
 use Rattle.layout.specs.declared.Layout.{Layout}
@@ -20,6 +20,7 @@ use Rattle.layout.specs.Layout.{layoutOf}
 use Rattle.layout.proofs.Places.{extent-is}
 use Rattle.sheet.specs.declared.Outcome.the-variants.{Accepted}
 use Rattle.sheet.specs.Sheet.{Reading, holds, fails, recordsFrom, reading, readSheet, contentOf}
+use Rattle.sheet.specs.inner.Longest.{longestSheet, deciding}
 use Rattle.sheet.specs.inner.Passed.{Passed, none, more, rowAt, Accepts, Refuses}
 use Rattle.sheet.proofs.Passing.{passed-laid, passed-allowed}
 use Rattle.sheet.proofs.RecordsFine.{passed-factor}
@@ -36,12 +37,15 @@ few-factors {c = c} p =
     omega (arith, length-take-le (length (c .factors) - 1) (c .factors) (omega arith)))
     (λ a. omega arith)
 
-at-most : (l : Layout) → Allowed l → l .factors ≤ length (dueOf l) → extent l ≤ 27748
+pub worked-lengths : (longestSheet ≡ 27748) × (deciding ≡ 27776)
+worked-lengths = (refl, refl)
+
+at-most : (l : Layout) → Allowed l → l .factors ≤ length (dueOf l) → extent l ≤ longestSheet
 at-most l a f =
     omega (arith, extent-is l, length-due (countsIn l), per-most (countsIn l) (a .few))
 
 -- no record begins, and no sheet ends, behind the longest sheet
-pub passed-short : {s : List ℕ} {at last : ℕ} {c : Content} → Passed s at last c → at ≤ 27748
+pub passed-short : {s : List ℕ} {at last : ℕ} {c : Content} → Passed s at last c → at ≤ longestSheet
 passed-short {s} {c = c} p = omega (arith, at-most (layoutOf c) (passed-allowed s p) (few-factors p), passed-laid s p .here)
 
 -- records that pass lead the reading on
@@ -70,26 +74,26 @@ first-take zero s h = absurd (omega arith)
 first-take (suc n) [] h = refl
 first-take (suc n) (k ∷ s) h = refl
 
-module _ (s : List ℕ) (n : ℕ) (enough : 27776 ≤ n) (longer : n ≤ length s) where
+module _ (s : List ℕ) (n : ℕ) (enough : deciding ≤ n) (longer : n ≤ length s) where
   abbrev front : List ℕ
   front = take n s
 
   front-length : length front ≡ n
   front-length = length-take-le n s longer
 
-  same-byte : (at : ℕ) → at ≤ 27748 → byteAt front at ≡ byteAt s at
+  same-byte : (at : ℕ) → at ≤ longestSheet → byteAt front at ≡ byteAt s at
   same-byte at h = getD-take n s at 0 (omega arith)
 
-  rest : (at : ℕ) → at ≤ 27748 → drop (at + 1) front ≡ take (n - (at + 1)) (drop (at + 1) s)
+  rest : (at : ℕ) → at ≤ longestSheet → drop (at + 1) front ≡ take (n - (at + 1)) (drop (at + 1) s)
   rest at h = let e : n ≡ at + 1 + (n - (at + 1)) = omega arith in ap (λ (m : ℕ). drop (at + 1) (take m s)) e ∙ drop-take (at + 1) (n - (at + 1)) s
 
-  same-row : (c : Content) (last at : ℕ) → at ≤ 27748 → recordRow c last (byteAt front at) (drop (at + 1) front) ≡ recordRow c last (byteAt s at) (drop (at + 1) s)
+  same-row : (c : Content) (last at : ℕ) → at ≤ longestSheet → recordRow c last (byteAt front at) (drop (at + 1) front) ≡ recordRow c last (byteAt s at) (drop (at + 1) s)
   same-row c last at h =
       rw (same-byte at h, rest at h)
-      (row-take c last (byteAt s at) (n - (at + 1)) (drop (at + 1) s) (omega (arith, length-most (byteAt s at))) (omega (arith, length-drop (at + 1) s)))
+      (row-take c last (byteAt s at) (n - (at + 1)) (drop (at + 1) s) (omega (arith, size-most (byteAt s at))) (omega (arith, length-drop (at + 1) s)))
 
-  same-body : (at : ℕ) → at ≤ 27748 → bodyIn (byteAt s at) (drop (at + 1) front) ≡ bodyIn (byteAt s at) (drop (at + 1) s)
-  same-body at h = rw (rest at h) (take-take (bodyLength (byteAt s at)) (n - (at + 1)) (drop (at + 1) s) (omega (arith, length-most (byteAt s at))))
+  same-body : (at : ℕ) → at ≤ longestSheet → bodyIn (byteAt s at) (drop (at + 1) front) ≡ bodyIn (byteAt s at) (drop (at + 1) s)
+  same-body at h = rw (rest at h) (take-take (bodyLength (byteAt s at)) (n - (at + 1)) (drop (at + 1) s) (omega (arith, size-most (byteAt s at))))
 
   moved : {at last : ℕ} {c : Content} → Passed s at last c → Passed front at last c
   moved none = none
@@ -118,19 +122,19 @@ module _ (s : List ℕ) (n : ℕ) (enough : 27776 ≤ n) (longer : n ≤ length 
   same-reading zero f = by-reading (reading s) refl f
   same-reading (suc number) f = rw (first-take n s (omega arith), f, eqb·suc-zero number)
 
-long-reading : (s : List ℕ) (n : ℕ) → 27776 ≤ n → reading (take n s) ≡ reading s
+long-reading : (s : List ℕ) (n : ℕ) → deciding ≤ n → reading (take n s) ≡ reading s
 long-reading s n h =
     below-or n (length s)
     (λ a. same-reading s n h (omega arith) (firstRow s) refl)
     (λ a. rw (take-all n s a))
 
-pub long : (s : List ℕ) (n : ℕ) → 27776 ≤ n → readSheet (take n s) ≡ readSheet s
+pub long : (s : List ℕ) (n : ℕ) → deciding ≤ n → readSheet (take n s) ≡ readSheet s
 unfolding readSheet
 long s n h = rw (long-reading s n h)
 
-pub long-content : (s : List ℕ) (n : ℕ) → 27776 ≤ n → contentOf (take n s) ≡ contentOf s
+pub long-content : (s : List ℕ) (n : ℕ) → deciding ≤ n → contentOf (take n s) ≡ contentOf s
 unfolding contentOf
 long-content s n h = rw (long-reading s n h)
 
-pub accepted-short : (s : List ℕ) (l : Layout) → readSheet s ≡ Accepted l → length s ≤ 27748
+pub accepted-short : (s : List ℕ) (l : Layout) → readSheet s ≡ Accepted l → length s ≤ longestSheet
 accepted-short s l e = passed-short (kept s l e .accepts .passed)

@@ -1,2 +1,3 @@
 pub mod Passed
 pub mod GoodFactors
+pub mod Longest

@@ -12,6 +12,7 @@ use Rattle.layout.specs.declared.Layout.{Layout}
 use Rattle.layout.specs.Layout.{layoutOf}
 use Rattle.sheet.specs.declared.Outcome.the-variants.{Accepted}
 use Rattle.sheet.specs.Sheet.{holds, reading, numberIn, outcome, readSheet, contentOf}
+use Rattle.sheet.specs.inner.Longest.{longestSheet}
 use Rattle.sheet.proofs.Answers.{accepted-holds}
 use Rattle.sheet.proofs.Accepted.{passed, one-head}
 use Rattle.sheet.proofs.Long.{accepted-short}
@@ -36,7 +37,7 @@ module _ (c : Content) (h : Head) (one : c .heads ≡ h ∷ []) (returned : Retu
       (rw m at (told (marked c) h one returned .holds-it)) e
 
   -- no sheet that is written is longer than the longest
-  pub written-short : contentRow c ≡ 0 → length (sheetBytes c) ≤ 27748
+  pub written-short : contentRow c ≡ 0 → length (sheetBytes c) ≤ longestSheet
   unfolding readSheet
   written-short e = accepted-short (sheetBytes c) (layoutOf c) (ap outcome (again e))
 

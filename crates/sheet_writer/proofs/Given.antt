@@ -7,6 +7,7 @@ use lib.ListN.{length, take, length-map}
 use lib.Seq.{take-all, length-take-le}
 use borrow.Author.Tests.{lt-ltb, le-ltb}
 use Rattle.integers.proofs.Cases.{below-or}
+use Rattle.record_table.specs.inner.Sizes.{size}
 use Rattle.layout.specs.Layout.{layoutOf}
 use Rattle.layout.specs.inner.Places.{extent}
 use Rattle.layout.proofs.Places.{extent-is}
@@ -16,7 +17,7 @@ use Rattle.records.specs.Bodies.{headOf, zoneOf, unitOf, pointOf, parOf, factor
 use Rattle.sheet_bytes.specs.SheetBytes.{headBody, zoneBody, unitBody, pointBody, parBody, factorBody, all, sheetBytes}
 use Rattle.sheet_bytes.specs.inner.Marked.{markedPoint, marked}
 use Rattle.sheet_bytes.specs.inner.Returns.{Returns, Each, Returned}
-use Rattle.sheet_writer.specs.inner.Given.{atMost}
+use Rattle.sheet_writer.specs.inner.Given.{atMost, mostGiven}
 
 -- an array of `most` cells, and n, its count or all of them
 pub record Part {A : Type 0} (l : List A) (most count n : ℕ) : Type 0 where
@@ -44,7 +45,7 @@ pub record Parts (d : Draft) (z u p a f : ℕ) : Type 0 where
   pub factors : Part (d .factors) 2889 (d .«factor_count») f
 
 module _ {d : Draft} {z u p a f : ℕ} (h : Parts d z u p a f) where
-  pub given-extent : extent (layoutOf (given d)) ≡ 28 + 25 * z + 22 * u + 27 * p + 26 * a + 7 * f
+  pub given-extent : extent (layoutOf (given d)) ≡ size 1 + size 2 * z + size 3 * u + size 4 * p + size 5 * a + size 6 * f
   unfolding layoutOf
   given-extent =
       omega (
@@ -58,7 +59,7 @@ module _ {d : Draft} {z u p a f : ℕ} (h : Parts d z u p a f) where
         part-length (h .factors),
       )
 
-  pub given-most : extent (layoutOf (given d)) ≤ 27855
+  pub given-most : extent (layoutOf (given d)) ≤ mostGiven
   given-most = omega (arith, given-extent, part-most (h .zones), part-most (h .units), part-most (h .points), part-most (h .pars), part-most (h .factors))
 
   pub few-zones : length (given d .zones) ≤ 33

@@ -17,7 +17,13 @@ use flow_sections::put_flows;
 use grid_sections::put_grid;
 
 // How many bytes all records of a draft have at most, surplus ones included.
-const ROOM: usize = 27_855;
+const ROOM: usize = record_table::HEAD_BODY
+    + 1
+    + (record_table::ZONE_BODY + 1) * drafts::ZONES
+    + (record_table::UNIT_BODY + 1) * drafts::UNITS
+    + (record_table::POINT_BODY + 1) * drafts::POINTS
+    + (record_table::PAR_BODY + 1) * drafts::PARS
+    + (record_table::FACTOR_BODY + 1) * drafts::FACTORS;
 
 // 0 and the sheet's length, or a refusal's number and 0.
 #[repr(C)]

@@ -3,6 +3,7 @@ use Prim.Native.Nat.{_-_}
 use mathlib.Core.Path.{_≡_, refl}
 use native.Mathlib.Omega.{arith}
 use lib.ListN.{length, take}
+use Rattle.record_table.specs.inner.Sizes.{size}
 use Rattle.records.specs.Bodies.{factorOf}
 use Rattle.sheet_bytes.specs.SheetBytes.{factorBody}
 use Rattle.sheet_bytes.proofs.Sections.{Section, taken, begun, grown, whole}
@@ -11,7 +12,7 @@ use Rattle.flow_sections.proofs.put_factors.Statement.{statement}
 use Rattle.flow_sections.proofs.put_factors.Tie as tie
 
 abbrev Inv-loop : tie.InvT-loop
-Inv-loop n out₀ factors at₀ i₀ out at i = Section 7 6 factorBody factorOf (λ k. take k factors) n out₀ out at i
+Inv-loop n out₀ factors at₀ i₀ out at i = Section (size 6) 6 factorBody factorOf (λ k. take k factors) n out₀ out at i
 
 abbrev μ-loop : tie.MeasureT-loop
 μ-loop n out₀ factors at₀ i₀ out at i = n - i

@@ -3,6 +3,7 @@ use Prim.Native.Nat.{_-_}
 use mathlib.Core.Path.{_≡_, refl}
 use native.Mathlib.Omega.{arith}
 use lib.ListN.{length, take}
+use Rattle.record_table.specs.inner.Sizes.{size}
 use Rattle.records.specs.Bodies.{parOf}
 use Rattle.sheet_bytes.specs.SheetBytes.{parBody}
 use Rattle.sheet_bytes.proofs.Sections.{Section, taken, begun, grown, whole}
@@ -11,7 +12,7 @@ use Rattle.flow_sections.proofs.put_pars.Statement.{statement}
 use Rattle.flow_sections.proofs.put_pars.Tie as tie
 
 abbrev Inv-loop : tie.InvT-loop
-Inv-loop n out₀ pars at₀ i₀ out at i = Section 26 5 parBody parOf (λ k. take k pars) n out₀ out at i
+Inv-loop n out₀ pars at₀ i₀ out at i = Section (size 5) 5 parBody parOf (λ k. take k pars) n out₀ out at i
 
 abbrev μ-loop : tie.MeasureT-loop
 μ-loop n out₀ pars at₀ i₀ out at i = n - i

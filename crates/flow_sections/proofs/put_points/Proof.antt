@@ -4,6 +4,7 @@ use mathlib.Core.Path.{_≡_, refl}
 use mathlib.Core.List.{map}
 use native.Mathlib.Omega.{arith}
 use lib.ListN.{length, take}
+use Rattle.record_table.specs.inner.Sizes.{size}
 use Rattle.records.specs.Bodies.{pointOf}
 use Rattle.drafts.specs.Draft.{pointGiven}
 use Rattle.sheet_bytes.specs.SheetBytes.{pointBody}
@@ -14,7 +15,7 @@ use Rattle.flow_sections.proofs.put_points.Statement.{statement}
 use Rattle.flow_sections.proofs.put_points.Tie as tie
 
 abbrev Inv-loop : tie.InvT-loop
-Inv-loop n out₀ points at₀ i₀ out at i = Section 27 4 pointBody pointOf (λ k. map markedPoint (map pointGiven (take k points))) n out₀ out at i
+Inv-loop n out₀ points at₀ i₀ out at i = Section (size 4) 4 pointBody pointOf (λ k. map markedPoint (map pointGiven (take k points))) n out₀ out at i
 
 abbrev μ-loop : tie.MeasureT-loop
 μ-loop n out₀ points at₀ i₀ out at i = n - i

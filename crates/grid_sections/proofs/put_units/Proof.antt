@@ -3,6 +3,7 @@ use Prim.Native.Nat.{_-_}
 use mathlib.Core.Path.{_≡_, refl}
 use native.Mathlib.Omega.{arith}
 use lib.ListN.{length, take}
+use Rattle.record_table.specs.inner.Sizes.{size}
 use Rattle.records.specs.Bodies.{unitOf}
 use Rattle.sheet_bytes.specs.SheetBytes.{unitBody}
 use Rattle.sheet_bytes.proofs.Sections.{Section, taken, begun, grown, whole}
@@ -11,7 +12,7 @@ use Rattle.grid_sections.proofs.put_units.Statement.{statement}
 use Rattle.grid_sections.proofs.put_units.Tie as tie
 
 abbrev Inv-loop : tie.InvT-loop
-Inv-loop n out₀ units at₀ i₀ out at i = Section 22 3 unitBody unitOf (λ k. take k units) n out₀ out at i
+Inv-loop n out₀ units at₀ i₀ out at i = Section (size 3) 3 unitBody unitOf (λ k. take k units) n out₀ out at i
 
 abbrev μ-loop : tie.MeasureT-loop
 μ-loop n out₀ units at₀ i₀ out at i = n - i

@@ -7,7 +7,8 @@ use Rattle.record_table.specs.Table.{headKind, zoneKind, unitKind, pointKind, p
 use Rattle.name_index.specs.declared.Run.{Run}
 use Rattle.name_index.specs.inner.Index.{Indexed}
 use Rattle.layout.specs.declared.Layout.{Layout}
-use Rattle.layout.specs.inner.Places.{count, size, firstOf}
+use Rattle.record_table.specs.inner.Sizes.{size}
+use Rattle.layout.specs.inner.Places.{count, firstOf}
 
 -- how many records have a name: all but the factors
 abbrev pub named : Layout → ℕ

@@ -5,7 +5,8 @@ use mathlib.Core.List.{List, [], _∷_}
 use lib.Dec.{eqb}
 use lib.ListN.{drop}
 use Rattle.fields.specs.Lists.{tab}
-use Rattle.record_table.specs.Table.{byKind, headKind, lastKind, bodyLength, bodyIn}
+use Rattle.record_table.specs.Table.{byKind, headKind, lastKind, bodyIn}
+use Rattle.record_table.specs.inner.Sizes.{size}
 use Rattle.records.specs.Bodies.{headOf, zoneOf, unitOf, pointOf, parOf, factorOf}
 use Rattle.records.specs.Content.{Content}
 use Rattle.due_factors.specs.declared.Counts.{Counts}
@@ -50,10 +51,6 @@ counted l kind = record {
   pars = l .pars + one (eqb kind 5);
   factors = l .factors + one (eqb kind 6);
 }
-
--- a record is one byte of kind, then a body
-abbrev pub size : ℕ → ℕ
-size kind = bodyLength kind + 1
 
 -- where the records of a kind begin: kinds never fall along the sheet, so behind all records of the kinds below
 unfoldable pub firstOf : Layout → ℕ → ℕ

@@ -11,7 +11,8 @@ use Rattle.due_factors.specs.Due.{noDue}
 use Rattle.due_factors.specs.inner.Places.{Few}
 use Rattle.due_factors.proofs.DueList.{length-due, per-most}
 use Rattle.due_factors.proofs.Runs.{RunDue, run-due}
-use Rattle.layout.specs.inner.Places.{size, countsIn, dueOf, contentAt}
+use Rattle.record_table.specs.inner.Sizes.{size}
+use Rattle.layout.specs.inner.Places.{countsIn, dueOf, contentAt}
 use Rattle.sheet.specs.inner.Passed.{Passed}
 use Rattle.sheet.specs.inner.GoodFactors.{withFactors}
 use Rattle.sheet.proofs.Passing.{passed-within, at-allowed}

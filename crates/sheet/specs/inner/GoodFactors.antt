@@ -9,7 +9,7 @@ use Rattle.fields.specs.Fields.{byteAt, be32, sbe16}
 use Rattle.due_factors.specs.declared.Due.{Due}
 use Rattle.rows.specs.Rows.{beyond}
 use Rattle.layout.specs.declared.Layout.{Layout}
-use Rattle.layout.specs.inner.Places.{size}
+use Rattle.record_table.specs.inner.Sizes.{size}
 
 -- target, subject and index as one number, as they stand in a record
 abbrev pub keyOf : Due → ℕ

@@ -3,8 +3,10 @@ use Prim.Native.Nat.{_+_, _*_, _≤_}
 use native.Mathlib.Omega.{arith}
 use denote.Ref.{now}
 use lib.ListN.{length, length-map}
+use Rattle.record_table.specs.inner.Sizes.{size}
 use Rattle.writers.proofs.Writing.{next, renamed}
 use Rattle.drafts.specs.declared.Draft.{Draft}
+use Rattle.sheet_writer.specs.inner.Given.{mostGiven}
 use Rattle.sheet_writer.proofs.Given.{Parts, part-most, given-extent, given-most, given-bytes, given-returned}
 use borrow.Author.Needs.{needs}
 use Rattle.sheet_writer.proofs.put_sheet.Statement.{statement}
@@ -43,10 +45,10 @@ module _ (c : tie.After-at-most5) where
         factors = record { full = simp length-map at (g .1 .1 .1 .1 .1 .1 .1 .1 .1 .1 .0 .1 .0 .1); is = c .at-most5 .ensures };
       }
 
-  total : 28 + 25 * c .before .before .before .before .at-most .result + 22 * c .before .before .before .at-most2 .result + 27 * c .before .before .at-most3 .result + 26 * c .before .at-most4 .result + 7 * c .at-most5 .result ≤ length (now (start .args .out))
+  total : size 1 + size 2 * c .before .before .before .before .at-most .result + size 3 * c .before .before .before .at-most2 .result + size 4 * c .before .before .at-most3 .result + size 5 * c .before .at-most4 .result + size 6 * c .at-most5 .result ≤ length (now (start .args .out))
   total = omega (arith, given-extent parts, start .pre)
 
-  most : 28 + 25 * c .before .before .before .before .at-most .result + 22 * c .before .before .before .at-most2 .result + 27 * c .before .before .at-most3 .result + 26 * c .before .at-most4 .result + 7 * c .at-most5 .result ≤ 27855
+  most : size 1 + size 2 * c .before .before .before .before .at-most .result + size 3 * c .before .before .before .at-most2 .result + size 4 * c .before .before .at-most3 .result + size 5 * c .before .at-most4 .result + size 6 * c .at-most5 .result ≤ mostGiven
   most = omega (arith, given-extent parts, given-most parts)
 
 put-grid-requires : tie.Need-put-grid-requires
