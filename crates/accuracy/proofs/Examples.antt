@@ -14,7 +14,7 @@ use Rattle.record_rows.specs.inner.Valid.{Valid}
 use Rattle.figures.specs.Balance.{balanceRow}
 use Rattle.figures.specs.Flow.{marketFlow}
 use Rattle.figures.specs.Payment.{difference, price, amount}
-use Rattle.figures.proofs.Examples.{printed, refused, headOf, zoneOf, unitOf, pointOf, parOf, factorOf, plain, sheetS, thirds, exporting}
+use Rattle.figures.proofs.Examples.{printed, refused, headOf, zoneOf, unitOf, pointOf, parOf, factorOf, plain, sheetS, wheeling, thirds, exporting}
 use Rattle.figures.proofs.Accepted.{proxy-fits, dueCount, valid-of, s-valid, s-balanced}
 use Rattle.accuracy.specs.Fraction.{Fraction, entire, _⊕_, _⊖_, _⊗_, _⊘_, half, sumOf, Equals, Near}
 use Rattle.accuracy.specs.Exact.{exactGenerationToLoad, exactCarriedTerm, exactRedirect, exactNonCommonRedirect, exactMarketFlow, exactDifference, exactPrice, exactAmountOf, exactAmount}
@@ -42,6 +42,11 @@ pub s-exact : Equals (amount sheetS (pos 100)) (exactAmount sheetS (pos 100))
 unfolding settled
 s-exact = record { above = record { lt = tt }; same = refl }
 
+-- wheels enter the exact amount too: of sheet S with wheels it is 1,361,458 1/3
+pub wheels-exact : exactAmount wheeling (pos 100) .numerator *ℤ pos 3 ≡ pos 4084375 *ℤ exactAmount wheeling (pos 100) .denominator
+unfolding settled
+wheels-exact = refl
+
 -- The market flow is at the entitlement, 100,000 W, and the exact one 1/3 W below it: the price taken is 0, the exact one the Non-Monitoring price
 abbrev brink : Content
 brink =
@@ -50,7 +55,7 @@ brink =
 
 brink-valid : Valid brink
 unfolding dueCount
-brink-valid = valid-of brink (omega arith) (omega arith) (record { sort-least = lit≤ tt; sort-most = lit≤ tt; place = proxy-fits 2; import = lit≤ tt; export = lit≤ tt }, tt)
+brink-valid = valid-of brink (omega arith) (omega arith) (record { sort-least = lit≤ tt; sort-most = lit≤ tt; place = proxy-fits 2; import = lit≤ tt; export = lit≤ tt; wheel-in = lit≤ tt; wheel-out = lit≤ tt }, tt)
 
 brink-balanced : balanceRow brink ≡ 0
 unfolding refused
@@ -124,7 +129,7 @@ far-beyond = record { lt = tt }
 
 far-valid : Valid far
 unfolding dueCount
-far-valid = valid-of far (omega arith) (omega arith) (record { sort-least = lit≤ tt; sort-most = lit≤ tt; place = proxy-fits 2; import = lit≤ tt; export = lit≤ tt }, tt)
+far-valid = valid-of far (omega arith) (omega arith) (record { sort-least = lit≤ tt; sort-most = lit≤ tt; place = proxy-fits 2; import = lit≤ tt; export = lit≤ tt; wheel-in = lit≤ tt; wheel-out = lit≤ tt }, tt)
 
 far-balanced : balanceRow far ≡ 0
 unfolding refused

@@ -16,7 +16,7 @@ abbrev pub placeGiven : DraftPoint → Place
 placeGiven p = cond (eqb (p .line) 0) Proxy (Line (p .zone))
 
 abbrev pub pointGiven : DraftPoint → Point
-pointGiven p = record { name = p .name; sort = p .sort; place = placeGiven p; import = p .import; export = p .export }
+pointGiven p = record { name = p .name; sort = p .sort; place = placeGiven p; import = p .import; export = p .export; «wheel_in» = p .«wheel_in»; «wheel_out» = p .«wheel_out» }
 
 -- of each array as many records as its count says, and at most all
 abbrev pub given : Draft → Content
@@ -39,10 +39,10 @@ zoneIn Proxy = 0
 zoneIn (Line n) = n
 
 abbrev pub drafted : Point → DraftPoint
-drafted p = record { name = p .name; sort = p .sort; line = lineOf (p .place); zone = zoneIn (p .place); import = p .import; export = p .export }
+drafted p = record { name = p .name; sort = p .sort; line = lineOf (p .place); zone = zoneIn (p .place); import = p .import; export = p .export; «wheel_in» = p .«wheel_in»; «wheel_out» = p .«wheel_out» }
 
 abbrev pub noDraftPoint : DraftPoint
-noDraftPoint = record { name = noName; sort = 0; line = 0; zone = 0; import = 0; export = 0 }
+noDraftPoint = record { name = noName; sort = 0; line = 0; zone = 0; import = 0; export = 0; «wheel_in» = 0; «wheel_out» = 0 }
 
 -- an array of `most` cells: the records, and zeros behind them
 abbrev pub cells : {A : Type 0} → ℕ → A → List A → List A

@@ -30,6 +30,8 @@ pub struct DraftPoint {
     pub zone: u8,
     pub import: u32,
     pub export: u32,
+    pub wheel_in: u32,
+    pub wheel_out: u32,
 }
 
 // The first records of each array are given, as many as its count says and at most all.
@@ -78,5 +80,7 @@ pub fn draft_point(p: Point) -> DraftPoint
         zone: zone_in(place),
         import: p.import,
         export: p.export,
+        wheel_in: p.wheel_in,
+        wheel_out: p.wheel_out,
     }
 }

@@ -40,7 +40,7 @@ abbrev pub unitOutside : Unit → Bool
 unitOutside u = ltb 2000000 (u .output)
 
 abbrev pub pointOutside : Point → Bool
-pointOutside p = ltb 200000 (p .import) || ltb 200000 (p .export)
+pointOutside p = ltb 200000 (p .import) || (ltb 200000 (p .export) || (ltb 200000 (p .«wheel_in») || ltb 200000 (p .«wheel_out»)))
 
 abbrev pub parOutside : Par → Bool
 parOutside p = beyond 200000 (p .actual) || beyond 200000 (p .target)

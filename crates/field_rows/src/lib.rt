@@ -96,7 +96,8 @@ pub fn unit_outside(u: Unit) -> bool
 pub fn point_outside(p: Point) -> bool
     ensures { λ r. ⌜ r ≡ pointOutside p ⌝ }
 {
-    (MOST_FLOW < p.import) | (MOST_FLOW < p.export)
+    let wheels = (MOST_FLOW < p.wheel_in) | (MOST_FLOW < p.wheel_out);
+    (MOST_FLOW < p.import) | ((MOST_FLOW < p.export) | wheels)
 }
 
 pub fn par_outside(p: Par) -> bool

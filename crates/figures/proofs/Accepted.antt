@@ -90,8 +90,8 @@ pub s-valid : Valid sheetS
 unfolding dueCount
 s-valid =
     valid-of sheetS (omega arith) (omega arith) (
-      record { sort-least = lit≤ tt; sort-most = lit≤ tt; place = line-fits 2 2 (lit≤ tt) (lit≤ tt); import = lit≤ tt; export = lit≤ tt },
-      (record { sort-least = lit≤ tt; sort-most = lit≤ tt; place = proxy-fits 2; import = lit≤ tt; export = lit≤ tt }, tt),
+      record { sort-least = lit≤ tt; sort-most = lit≤ tt; place = line-fits 2 2 (lit≤ tt) (lit≤ tt); import = lit≤ tt; export = lit≤ tt; wheel-in = lit≤ tt; wheel-out = lit≤ tt },
+      (record { sort-least = lit≤ tt; sort-most = lit≤ tt; place = proxy-fits 2; import = lit≤ tt; export = lit≤ tt; wheel-in = lit≤ tt; wheel-out = lit≤ tt }, tt),
     )
 
 pub s-balanced : balanceRow sheetS ≡ 0

@@ -28,7 +28,7 @@ use Rattle.figures.proofs.Factors.{unit-factor-within, zone-factor-with
 use Rattle.figures.proofs.Ranges.{parallel-within, shadow-within, control-within}
 
 -- the bounds of steps 4 to 6 as figures
-pub worked-bounds : (mostSchedule ≡ 640000000000) × (mostCarriedSum ≡ 83200000000000000) × (mostRedirect ≡ 8640000000000) × (mostMarket ≡ 18960000000000)
+pub worked-bounds : (mostSchedule ≡ 1280000000000) × (mostCarriedSum ≡ 134400000000000000) × (mostRedirect ≡ 13760000000000) × (mostMarket ≡ 30480000000000)
 worked-bounds = (refl, refl, refl, refl)
 
 -- a number times a factor

@@ -29,8 +29,11 @@ zoneOf load losses = record { name = noName; load = load; losses = losses }
 abbrev pub unitOf : ℕ → ℕ → Unit
 unitOf zone output = record { name = noName; zone = zone; output = output }
 
+abbrev pub wheelOf : ℕ → Place → ℕ → ℕ → ℕ → ℕ → Point
+wheelOf type place import export into out = record { name = noName; sort = type; place = place; import = import; export = export; «wheel_in» = into; «wheel_out» = out }
+
 abbrev pub pointOf : ℕ → Place → ℕ → ℕ → Point
-pointOf type place import export = record { name = noName; sort = type; place = place; import = import; export = export }
+pointOf type place import export = wheelOf type place import export 0 0
 
 abbrev pub parOf : ℕ → ℤ → ℤ → Par
 parOf class actual target = record { name = noName; class = class; actual = actual; target = target }
@@ -97,6 +100,18 @@ likeS rto class = record {
 abbrev pub sheetS : Content
 sheetS = likeS 2 common
 
+-- Sheet S with wheels: at the line 70 in and 30 out, at the proxy 20 in and 50 out. The net schedules are 540 and 70, loads and
+-- generation those of sheet S
+abbrev pub wheeling : Content
+wheeling = record {
+  heads = sheetS .heads;
+  zones = sheetS .zones;
+  units = sheetS .units;
+  points = wheelOf noncommon (Line 2) 500 0 70 30 ∷ wheelOf common Proxy 300 200 20 50 ∷ [];
+  pars = sheetS .pars;
+  factors = sheetS .factors;
+}
+
 -- A line with an export, two PARs of one class, and a common point that acts on each PAR: here G and net generation differ, a PAR's shadow
 -- flow is not zero, and the two common PARs' shares rounded one by one would carry one watt more
 abbrev pub exchanging : ℕ → Content
@@ -144,6 +159,7 @@ level = plain dear (zoneOf 100 0 ∷ []) (unitOf 1 100 ∷ []) [] (factorOf 0 1 
 abbrev statements : List (Content × ℤ × List ℤ)
 statements =
     (sheetS, pos 100, pos 12600000 ∷ pos 0 ∷ pos 0 ∷ pos 5000000 ∷ pos 400000 ∷ pos 4812500 ∷ pos 0 ∷ pos 13187500 ∷ pos 10000000 ∷ pos 5000 ∷ pos 1328125 ∷ negsuc 1328124 ∷ pos 1328125 ∷ [])
+    ∷ (wheeling, pos 100, pos 12600000 ∷ pos 0 ∷ pos 0 ∷ pos 5400000 ∷ pos 280000 ∷ pos 5012500 ∷ pos 0 ∷ pos 13267500 ∷ pos 10000000 ∷ pos 5000 ∷ pos 1361458 ∷ negsuc 1361457 ∷ pos 1361458 ∷ [])
     ∷ (likeS 2 noncommon, pos 100, pos 12600000 ∷ pos 0 ∷ pos 0 ∷ pos 5000000 ∷ pos 400000 ∷ pos 0 ∷ pos 4812500 ∷ pos 13187500 ∷ pos 10000000 ∷ pos 5000 ∷ pos 1328125 ∷ negsuc 1328124 ∷ pos 1328125 ∷ [])
     ∷ (likeS 1 noncommon, pos 100, pos 12600000 ∷ pos 0 ∷ pos 0 ∷ pos 5000000 ∷ pos 400000 ∷ pos 0 ∷ pos 0 ∷ pos 18000000 ∷ pos 10000000 ∷ pos 5000 ∷ pos 3333333 ∷ pos 3333333 ∷ negsuc 3333332 ∷ [])
     ∷ (exchanging pjm, pos 100, pos 12566134 ∷ negsuc 826 ∷ pos 1210 ∷ pos 4300000 ∷ pos 400000 ∷ pos 6590213 ∷ pos 602573 ∷ pos 10073348 ∷ pos 10000000 ∷ pos 5000 ∷ pos 30562 ∷ negsuc 30561 ∷ pos 30562 ∷ [])

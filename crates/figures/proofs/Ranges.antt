@@ -3,7 +3,7 @@ use Prim.Native.Nat.{ℕ, _+_, _*_, _≤_, _<_}
 use native.Mathlib.Nat.{le-refl}
 use native.Mathlib.Omega.{arith}
 use lib.Dec.{eqb}
-use lib.IntN.{ℤ, pos, natAbs, _-ℤ_, _*ℤ_}
+use lib.IntN.{ℤ, pos, natAbs, _+ℤ_, _-ℤ_, _*ℤ_}
 use lib.ListN.{length}
 use Rattle.integers.proofs.Absolute.{abs-sub}
 use Rattle.integers.proofs.Linear.{zarith}
@@ -24,12 +24,12 @@ use Rattle.figures.proofs.Factors.{point-factor-within, par-factor-with
 watts-within : (x f : ℤ) {a : ℕ} → natAbs x ≤ a → natAbs f ≤ 10000 → natAbs (x *ℤ f *ℤ pos 10) ≤ a * 10000 * 10
 watts-within x f h k = times-within (x *ℤ f) (pos 10) (times-within x f h k) (le-refl 10)
 
-gap-within : (a b : ℕ) → a ≤ 200000 → b ≤ 200000 → natAbs (pos a -ℤ pos b) ≤ mostNet
-gap-within a b = simp zi (simp zo (omega zarith))
+gap-within : (a b d f : ℕ) → a ≤ 200000 → b ≤ 200000 → d ≤ 200000 → f ≤ 200000 → natAbs (pos a +ℤ pos b -ℤ pos d -ℤ pos f) ≤ mostNet
+gap-within a b d f = simp zi (simp zo (omega zarith))
 
 pub net-within : {zones : ℕ} {p : Point} → PointFits zones p → natAbs (netSchedule p) ≤ mostNet
 unfolding netSchedule
-net-within {p = p} f = gap-within (p .import) (p .export) (f .import) (f .export)
+net-within {p = p} f = gap-within (p .import) (p .«wheel_in») (p .export) (p .«wheel_out») (f .import) (f .wheel-in) (f .export) (f .wheel-out)
 
 module _ {c : Content} (v : Valid c) where
   -- steps 1 and 2

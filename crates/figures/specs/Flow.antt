@@ -60,9 +60,9 @@ generationToLoad c target = quotient (secondDividend c target) (netGeneration c)
 unfoldable pub secondRemainder : Content → ℕ → ℤ
 secondRemainder c target = remainder (secondDividend c target) (netGeneration c)
 
--- Step 4 (5.5)
+-- Step 4 (5.5); net schedule by document 02, request 5. Loads and generation are not reduced by wheels
 unfoldable pub netSchedule : Point → ℤ
-netSchedule p = pos (p .import) -ℤ pos (p .export)
+netSchedule p = pos (p .import) +ℤ pos (p .«wheel_in») -ℤ pos (p .export) -ℤ pos (p .«wheel_out»)
 
 -- a point's flow on a target, if the point is of that type
 unfoldable pub scheduleTerm : Content → ℕ → ℕ → ℕ → ℤ

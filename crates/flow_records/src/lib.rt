@@ -1,10 +1,11 @@
 // Writers of a point's, a PAR's and a factor's record. Each fills the front of the buffer that it is lent, and returns how many
 // bytes these are. Read again, the body is the record.
 ghost use mathlib.Core.Path.{_≡_};
-ghost use mathlib.Core.List.{_∷_, []};
+ghost use mathlib.Core.List.{_∷_, _++_, []};
 ghost use Prim.Native.Nat.{_≤_};
 ghost use lib.ListN.{length};
 ghost use Rattle.writers.specs.inner.Wrote.{Wrote};
+ghost use Rattle.field_writers.specs.FieldBytes.{bytes32};
 ghost use Rattle.record_table.specs.inner.Sizes.{size};
 ghost use Rattle.records.specs.Bodies.{pointOf, parOf, factorOf};
 ghost use Rattle.drafts.specs.Draft.{placeGiven, pointGiven};
@@ -42,11 +43,11 @@ fn put_place(p: DraftPoint, out: &mut [u8]) -> usize
     put8(place_byte(p), out)
 }
 
-pub fn put_point(p: DraftPoint, out: &mut [u8]) -> usize
-    requires { ⌜ size 4 ≤ length (now out) ⌝ }
-    ensures { λ r. ⌜ Wrote (4 ∷ pointBody (markedPoint (pointGiven p))) (now (out .entry)) (now (out .exit)) r ⌝ }
-    ensures { λ r. ⌜ r ≡ size 4 ⌝ }
-    ensures { λ _. ⌜ Returns 4 pointBody pointOf (markedPoint (pointGiven p)) ⌝ }
+// A point's record as far as its export.
+fn put_to_export(p: DraftPoint, out: &mut [u8]) -> usize
+    requires { ⌜ 27 ≤ length (now out) ⌝ }
+    ensures { λ r. ⌜ Wrote (4 ∷ ((((p .name ++ (p .sort ∷ [])) ++ (placeByte (markedPlace (placeGiven p)) ∷ [])) ++ bytes32 (p .import)) ++ bytes32 (p .export))) (now (out .entry)) (now (out .exit)) r ⌝ }
+    ensures { λ r. ⌜ r ≡ 27 ⌝ }
 {
     let name = p.name;
     let mut n = put_front(record_table::POINT_KIND, name, out);
@@ -54,6 +55,18 @@ pub fn put_point(p: DraftPoint, out: &mut [u8]) -> usize
     n += put_place(p, &mut out[n..]);
     n += put32(p.import, &mut out[n..]);
     n += put32(p.export, &mut out[n..]);
+    n
+}
+
+pub fn put_point(p: DraftPoint, out: &mut [u8]) -> usize
+    requires { ⌜ size 4 ≤ length (now out) ⌝ }
+    ensures { λ r. ⌜ Wrote (4 ∷ pointBody (markedPoint (pointGiven p))) (now (out .entry)) (now (out .exit)) r ⌝ }
+    ensures { λ r. ⌜ r ≡ size 4 ⌝ }
+    ensures { λ _. ⌜ Returns 4 pointBody pointOf (markedPoint (pointGiven p)) ⌝ }
+{
+    let mut n = put_to_export(p, out);
+    n += put32(p.wheel_in, &mut out[n..]);
+    n += put32(p.wheel_out, &mut out[n..]);
     n
 }
 

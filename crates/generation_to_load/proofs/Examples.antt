@@ -11,7 +11,7 @@ use Rattle.records.specs.Codes.{common, noncommon}
 use Rattle.records.specs.Content.{Content, bears, factorFor}
 use Rattle.figures.specs.Balance.{samePlace, importAt, imports, exportAt, exports, totalLoad, zoneLoad, netLoad, finalLoad, output, outputIn, zoneOutput, zoneGeneration, netGeneration, finalGeneration, grossOutput, grossLoad}
 use Rattle.figures.specs.Flow.{factor, outputTerm, weightedOutput, loadTerm, weightedLoad, firstDividend, loadShare, firstRemainder, grossFlow, secondDividend, generationToLoad, secondRemainder}
-use Rattle.figures.proofs.Examples.{headOf, zoneOf, unitOf, pointOf, parOf, factorOf, sheetS}
+use Rattle.figures.proofs.Examples.{headOf, zoneOf, unitOf, pointOf, parOf, factorOf, sheetS, wheeling}
 use Rattle.zone_sums.specs.ByZone.{cells}
 use Rattle.generation_to_load.specs.declared.LoadServed.{LoadServed}
 use Rattle.generation_to_load.specs.declared.GenerationServing.{GenerationServing}
@@ -70,6 +70,7 @@ flowing a n b first h flow second = record {
 abbrev loadsServed : List (Content × LoadServed)
 loadsServed =
     (sheetS, load (pos 1000 ∷ pos 1500 ∷ replicate 30 (pos 0)) (pos 3000) (pos 2500) (pos 2200))
+    ∷ (wheeling, load (pos 1000 ∷ pos 1500 ∷ replicate 30 (pos 0)) (pos 3000) (pos 2500) (pos 2200))
     ∷ (differing, load (pos 653 ∷ pos 427 ∷ pos 293 ∷ replicate 29 (pos 0)) (pos 1463) (pos 1373) (pos 1290))
     ∷ []
 
@@ -80,6 +81,7 @@ computed-loads = refl
 abbrev generationServing : List (Content × GenerationServing)
 generationServing =
     (sheetS, generated (pos 1200 ∷ pos 2000 ∷ replicate 30 (pos 0)) (pos 3200) (pos 3200) (pos 3000))
+    ∷ (wheeling, generated (pos 1200 ∷ pos 2000 ∷ replicate 30 (pos 0)) (pos 3200) (pos 3200) (pos 3000))
     ∷ (differing, generated (pos 655 ∷ pos 331 ∷ pos 220 ∷ replicate 29 (pos 0)) (pos 1281) (pos 1206) (pos 1089))
     ∷ []
 

@@ -101,13 +101,17 @@ point-pass zones r p e =
     let b = row-pass 8 (pointOutside p) 0 (a .1) in
     let x = neither (noType (p .sort)) (placeUnknown zones (p .place)) (a .0) in
     let s = listed (p .sort) 1 2 1 2 (x .0) (omega arith) (omega arith) (omega arith) (omega arith) in
-    let y = neither (ltb 200000 (p .import)) (ltb 200000 (p .export)) (b .0) in
+    let y = neither (ltb 200000 (p .import)) _ (b .0) in
+    let z = neither (ltb 200000 (p .export)) _ (y .1) in
+    let w = neither (ltb 200000 (p .«wheel_in»)) (ltb 200000 (p .«wheel_out»)) (z .1) in
     record {
       sort-least = s .0;
       sort-most = s .1;
       place = place-known zones (p .place) (x .1);
       import = ltb-false _ _ (y .0);
-      export = ltb-false _ _ (y .1);
+      export = ltb-false _ _ (z .0);
+      wheel-in = ltb-false _ _ (w .0);
+      wheel-out = ltb-false _ _ (w .1);
     })
 
 pub par-pass : (repeated : Bool) (p : Par) → parRow repeated p ≡ 0 → Passes (p .name) repeated (ParFits p)

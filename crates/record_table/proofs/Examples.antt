@@ -6,7 +6,7 @@ use lib.ListN.{length, take}
 use Rattle.record_table.specs.Table.{KindRow, kindOf, bodyLength, fieldAt}
 
 abbrev places : KindRow → List ℕ
-places k = map (fieldAt k) (take (length (k .fields)) (0 ∷ 1 ∷ 2 ∷ 3 ∷ 4 ∷ []))
+places k = map (fieldAt k) (take (length (k .fields)) (0 ∷ 1 ∷ 2 ∷ 3 ∷ 4 ∷ 5 ∷ 6 ∷ []))
 
 -- kind, body bytes, the places of its fields
 abbrev table : List (ℕ × ℕ × List ℕ)
@@ -14,7 +14,7 @@ table =
     (1, 27, 0 ∷ 16 ∷ 17 ∷ 19 ∷ 23 ∷ [])
     ∷ (2, 24, 0 ∷ 16 ∷ 20 ∷ [])
     ∷ (3, 21, 0 ∷ 16 ∷ 17 ∷ [])
-    ∷ (4, 26, 0 ∷ 16 ∷ 17 ∷ 18 ∷ 22 ∷ [])
+    ∷ (4, 34, 0 ∷ 16 ∷ 17 ∷ 18 ∷ 22 ∷ 26 ∷ 30 ∷ [])
     ∷ (5, 25, 0 ∷ 16 ∷ 17 ∷ 21 ∷ [])
     ∷ (6, 6, 0 ∷ 1 ∷ 2 ∷ 4 ∷ [])
     ∷ []

@@ -22,9 +22,9 @@ zoneKind = record { fields = 16 ∷ 4 ∷ 4 ∷ []; named = true; most = 32 }
 abbrev pub unitKind : KindRow
 unitKind = record { fields = 16 ∷ 1 ∷ 4 ∷ []; named = true; most = 256 }
 
--- 4: name; type; place; import; export
+-- 4: name; type; place; import; export; wheel in; wheel out (document 02, request 5)
 abbrev pub pointKind : KindRow
-pointKind = record { fields = 16 ∷ 1 ∷ 1 ∷ 4 ∷ 4 ∷ []; named = true; most = 32 }
+pointKind = record { fields = 16 ∷ 1 ∷ 1 ∷ 4 ∷ 4 ∷ 4 ∷ 4 ∷ []; named = true; most = 32 }
 
 -- 5: name; class; actual; target
 abbrev pub parKind : KindRow

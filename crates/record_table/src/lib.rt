@@ -22,7 +22,7 @@ pub const ZONE_BODY: usize = 24;
 
 pub const UNIT_BODY: usize = 21;
 
-pub const POINT_BODY: usize = 26;
+pub const POINT_BODY: usize = 34;
 
 pub const PAR_BODY: usize = 25;
 

@@ -50,6 +50,8 @@ pointOf b = record {
   place = placeOf (byteAt b (fieldAt pointKind 2));
   import = be32 b (fieldAt pointKind 3);
   export = be32 b (fieldAt pointKind 4);
+  «wheel_in» = be32 b (fieldAt pointKind 5);
+  «wheel_out» = be32 b (fieldAt pointKind 6);
 }
 
 unfoldable pub parOf : List ℕ → Par

@@ -41,7 +41,7 @@ abbrev pub noUnit : Unit
 noUnit = record { name = noName; zone = 0; output = 0 }
 
 abbrev pub noPoint : Point
-noPoint = record { name = noName; sort = 0; place = Proxy; import = 0; export = 0 }
+noPoint = record { name = noName; sort = 0; place = Proxy; import = 0; export = 0; «wheel_in» = 0; «wheel_out» = 0 }
 
 abbrev pub noPar : Par
 noPar = record { name = noName; class = 0; actual = pos 0; target = pos 0 }

@@ -93,6 +93,8 @@ pub fn point_of(b: &[u8]) -> Point
         place,
         import: fields::be32_at(b, 18),
         export: fields::be32_at(b, 22),
+        wheel_in: fields::be32_at(b, 26),
+        wheel_out: fields::be32_at(b, 30),
     }
 }
 

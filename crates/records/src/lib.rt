@@ -51,13 +51,15 @@ pub enum Place {
     Line(u8),
 }
 
-// Kind 4. sort: its type.
+// Kind 4. sort: its type. wheel_in, wheel_out: energy that enters at one point and leaves at another (document 02, request 5).
 pub struct Point {
     pub name: [u8; 16],
     pub sort: u8,
     pub place: Place,
     pub import: u32,
     pub export: u32,
+    pub wheel_in: u32,
+    pub wheel_out: u32,
 }
 
 // Kind 5.

@@ -1,4 +1,4 @@
--- The listing of every accepted statement has at most 288 bytes, so row 23 is not met in a buffer of that length.
+-- The listing of every accepted statement has at most 292 bytes, so row 23 is not met in a buffer of that length.
 use mathlib.Core.Path.{_≡_, refl, ap}
 use mathlib.Core.List.{List}
 use Prim.Native.Nat.{ℕ, _≤_}
@@ -18,7 +18,7 @@ use Rattle.report.specs.Report.{reported}
 use Rattle.printout.proofs.Lengths.{decimal-length, unsigned-length, opposite-length, name-length, flowgate-length, gtl-length, flows-length, payment-length, listing-length}
 
 -- so many digits a figure; a price has no minus, and of the two payments at most one has
-bounded-longest : (s : Statement) → Bounded s → length (listing s) ≤ 288
+bounded-longest : (s : Statement) → Bounded s → length (listing s) ≤ 292
 bounded-longest s h =
     let name = h .name in
     omega (
@@ -32,10 +32,10 @@ bounded-longest s h =
       decimal-length 11 (s .gtl) (let b = h .gtl in omega arith),
       decimal-length 6 (s .«first_remainder») (let b = h .first-remainder in omega arith),
       decimal-length 6 (s .«second_remainder») (let b = h .second-remainder in omega arith),
-      decimal-length 11 (s .parallel) (let b = h .parallel in omega arith),
-      decimal-length 11 (s .shadow) (let b = h .shadow in omega arith),
-      decimal-length 12 (s .common) (let b = h .common in omega arith),
-      decimal-length 12 (s .noncommon) (let b = h .noncommon in omega arith),
+      decimal-length 12 (s .parallel) (let b = h .parallel in omega arith),
+      decimal-length 12 (s .shadow) (let b = h .shadow in omega arith),
+      decimal-length 13 (s .common) (let b = h .common in omega arith),
+      decimal-length 13 (s .noncommon) (let b = h .noncommon in omega arith),
       decimal-length 10 (s .market) (let b = h .market in omega arith),
       decimal-length 10 (s .entitlement) (let b = h .entitlement in omega arith),
       unsigned-length 5 (s .price) (h .price-least) (let b = h .price in omega arith),
@@ -44,11 +44,11 @@ bounded-longest s h =
       ap (λ (z : ℤ). length (decimal z)) (h .pjm),
     )
 
-pub longest : (sheet list : List ℕ) → settled sheet list .refusal ≡ 0 → length (listing (settled sheet list)) ≤ 288
+pub longest : (sheet list : List ℕ) → settled sheet list .refusal ≡ 0 → length (listing (settled sheet list)) ≤ 292
 longest sheet list accepted = bounded-longest (settled sheet list) (bounded sheet list accepted)
 
--- so a buffer of 288 bytes is never too short, nor is the one that the program lends
-pub row-23-not-met : (sheet list out : List ℕ) → 288 ≤ length out → reported sheet list out .statement ≡ settled sheet list
+-- so a buffer of 292 bytes is never too short, nor is the one that the program lends
+pub row-23-not-met : (sheet list out : List ℕ) → 292 ≤ length out → reported sheet list out .statement ≡ settled sheet list
 unfolding reported checked
 row-23-not-met sheet list out room =
     let s = settled sheet list in

@@ -34,8 +34,11 @@ zone name load = record { name = named name; load = load; losses = 0 }
 abbrev unit : ℕ → ℕ → Unit
 unit name zone = record { name = named name; zone = zone; output = 100 }
 
+abbrev wheel : ℕ → Place → ℕ → ℕ → ℕ → Point
+wheel name place import into out = record { name = named name; sort = 1; place = place; import = import; export = 0; «wheel_in» = into; «wheel_out» = out }
+
 abbrev point : ℕ → Place → ℕ → Point
-point name place import = record { name = named name; sort = 1; place = place; import = import; export = 0 }
+point name place import = wheel name place import 0 0
 
 abbrev par : ℕ → ℕ → ℤ → Par
 par name class actual = record { name = named name; class = class; actual = actual; target = pos 0 }
@@ -76,6 +79,11 @@ rows =
     -- points as they should be make factors due
     ∷ (13, with-points (point 80 (Line 1) 200000 ∷ point 81 Proxy 0 ∷ []))
     ∷ (9, with-points (point 80 Proxy 200001 ∷ []))
+    -- wheels in their range, and each by itself out of it
+    ∷ (13, with-points (wheel 80 Proxy 0 200000 200000 ∷ []))
+    ∷ (9, with-points (wheel 80 Proxy 0 200001 0 ∷ []))
+    ∷ (9, with-points (wheel 80 Proxy 0 0 200001 ∷ []))
+    ∷ (8, with-points (wheel 80 (Line 0) 0 0 200001 ∷ []))
     ∷ (7, with-points (point 80 Proxy 0 ∷ point 80 (Line 0) 0 ∷ []))
     -- an earlier record wins, then the lower row: the unit's name is bad
     ∷ (6, with-zones (zone 90 100 ∷ []))
@@ -101,20 +109,20 @@ pub computed-surplus : contentRow (with-zones (zones ++ (zone 0 100 ∷ []))) �
 unfolding contentRow inTurn headRow zoneRow zeros filled nameOk sameList seenBefore tab
 computed-surplus = refl
 
--- import before export, the place's byte; signs
+-- import, export, wheel in, wheel out in their order, the place's byte; signs
 pub computed-bodies :
-    (pointBody (record { name = named 80; sort = 2; place = Line 7; import = 258; export = 67305985 }) ≡ 80 ∷ 0 ∷ 0 ∷ 0 ∷ 0 ∷ 0 ∷ 0 ∷ 0 ∷ 0 ∷ 0 ∷ 0 ∷ 0 ∷ 0 ∷ 0 ∷ 0 ∷ 0 ∷ 2 ∷ 7 ∷ 0 ∷ 0 ∷ 1 ∷ 2 ∷ 4 ∷ 3 ∷ 2 ∷ 1 ∷ [])
+    (pointBody (record { name = named 80; sort = 2; place = Line 7; import = 258; export = 67305985; «wheel_in» = 1; «wheel_out» = 16909060 }) ≡ 80 ∷ 0 ∷ 0 ∷ 0 ∷ 0 ∷ 0 ∷ 0 ∷ 0 ∷ 0 ∷ 0 ∷ 0 ∷ 0 ∷ 0 ∷ 0 ∷ 0 ∷ 0 ∷ 2 ∷ 7 ∷ 0 ∷ 0 ∷ 1 ∷ 2 ∷ 4 ∷ 3 ∷ 2 ∷ 1 ∷ 0 ∷ 0 ∷ 0 ∷ 1 ∷ 1 ∷ 2 ∷ 3 ∷ 4 ∷ [])
     × (parBody (par 80 1 (negsuc 0)) ≡ 80 ∷ 0 ∷ 0 ∷ 0 ∷ 0 ∷ 0 ∷ 0 ∷ 0 ∷ 0 ∷ 0 ∷ 0 ∷ 0 ∷ 0 ∷ 0 ∷ 0 ∷ 0 ∷ 1 ∷ 255 ∷ 255 ∷ 255 ∷ 255 ∷ 0 ∷ 0 ∷ 0 ∷ 0 ∷ [])
     × (factorBody (factor 3 1 256 (negsuc 9999)) ≡ 3 ∷ 1 ∷ 1 ∷ 0 ∷ 216 ∷ 240 ∷ [])
 unfolding pointBody parBody factorBody signed16 signed32
 computed-bodies = (refl, refl, refl)
 
 -- a sheet with a record of each kind
-pub computed-sheet : sheetBytes (content (zone 90 100 ∷ []) (unit 85 1 ∷ []) (point 80 Proxy 600 ∷ []) (par 82 2 (pos 1) ∷ []) (factor 0 1 1 (negsuc 0) ∷ []))
+pub computed-sheet : sheetBytes (content (zone 90 100 ∷ []) (unit 85 1 ∷ []) (wheel 80 Proxy 600 7 256 ∷ []) (par 82 2 (pos 1) ∷ []) (factor 0 1 1 (negsuc 0) ∷ []))
     ≡ (1 ∷ named 70) ++ (2 ∷ 1 ∷ 44 ∷ 0 ∷ 0 ∷ 19 ∷ 136 ∷ 0 ∷ 0 ∷ 7 ∷ 208 ∷ [])
     ++ (2 ∷ named 90) ++ (0 ∷ 0 ∷ 0 ∷ 100 ∷ 0 ∷ 0 ∷ 0 ∷ 0 ∷ [])
     ++ (3 ∷ named 85) ++ (1 ∷ 0 ∷ 0 ∷ 0 ∷ 100 ∷ [])
-    ++ (4 ∷ named 80) ++ (1 ∷ 0 ∷ 0 ∷ 0 ∷ 2 ∷ 88 ∷ 0 ∷ 0 ∷ 0 ∷ 0 ∷ [])
+    ++ (4 ∷ named 80) ++ (1 ∷ 0 ∷ 0 ∷ 0 ∷ 2 ∷ 88 ∷ 0 ∷ 0 ∷ 0 ∷ 0 ∷ 0 ∷ 0 ∷ 0 ∷ 7 ∷ 0 ∷ 0 ∷ 1 ∷ 0 ∷ [])
     ++ (5 ∷ named 82) ++ (2 ∷ 0 ∷ 0 ∷ 0 ∷ 1 ∷ 0 ∷ 0 ∷ 0 ∷ 0 ∷ [])
     ++ (6 ∷ 0 ∷ 1 ∷ 0 ∷ 1 ∷ 255 ∷ 255 ∷ [])
 unfolding sheetBytes all headBody zoneBody unitBody pointBody parBody factorBody signed16 signed32

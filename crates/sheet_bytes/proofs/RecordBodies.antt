@@ -107,17 +107,23 @@ point-returns p e =
     let at : List ℕ = place ∷ [] in
     let import = bytes32 (p .import) in
     let export = bytes32 (p .export) in
+    let into = bytes32 (p .«wheel_in») in
+    let out = bytes32 (p .«wheel_out») in
     let l1 = longer (p .name) type 16 1 e refl in
     let l2 = longer (p .name ++ type) at 17 1 l1 refl in
     let l3 = longer (p .name ++ type ++ at) import 18 4 l2 refl in
+    let l4 = longer (p .name ++ type ++ at ++ import) export 22 4 l3 refl in
+    let l5 = longer (p .name ++ type ++ at ++ import ++ export) into 26 4 l4 refl in
     record {
-      long = longer (p .name ++ type ++ at ++ import) export 22 4 l3 refl;
+      long = longer (p .name ++ type ++ at ++ import ++ export ++ into) out 30 4 l5 refl;
       same = λ j. record {
-        name = field-at [] (p .name) (type ∷ at ∷ import ∷ export ∷ []) 0 16 refl e j;
-        sort = field8 s 16 (p .sort) (field-at (p .name) type (at ∷ import ∷ export ∷ []) 16 1 e refl) j;
-        place = (ap placeOf (field8 s 17 place (field-at (p .name ++ type) at (import ∷ export ∷ []) 17 1 l1 refl)) ∙ place-returns (p .place)) j;
-        import = field32 s 18 (p .import) (field-at (p .name ++ type ++ at) import (export ∷ []) 18 4 l2 refl) j;
-        export = field32 s 22 (p .export) (field-at (p .name ++ type ++ at ++ import) export [] 22 4 l3 refl) j;
+        name = field-at [] (p .name) (type ∷ at ∷ import ∷ export ∷ into ∷ out ∷ []) 0 16 refl e j;
+        sort = field8 s 16 (p .sort) (field-at (p .name) type (at ∷ import ∷ export ∷ into ∷ out ∷ []) 16 1 e refl) j;
+        place = (ap placeOf (field8 s 17 place (field-at (p .name ++ type) at (import ∷ export ∷ into ∷ out ∷ []) 17 1 l1 refl)) ∙ place-returns (p .place)) j;
+        import = field32 s 18 (p .import) (field-at (p .name ++ type ++ at) import (export ∷ into ∷ out ∷ []) 18 4 l2 refl) j;
+        export = field32 s 22 (p .export) (field-at (p .name ++ type ++ at ++ import) export (into ∷ out ∷ []) 22 4 l3 refl) j;
+        «wheel_in» = field32 s 26 (p .«wheel_in») (field-at (p .name ++ type ++ at ++ import ++ export) into (out ∷ []) 26 4 l4 refl) j;
+        «wheel_out» = field32 s 30 (p .«wheel_out») (field-at (p .name ++ type ++ at ++ import ++ export ++ into) out [] 30 4 l5 refl) j;
       };
     }
 
@@ -189,16 +195,20 @@ module _ (b : List ℕ) (h : Bytes b) where
       pick true z = sym (eqb-true n 0 z)
       pick false z = refl
 
-  module _ (e : length b ≡ 26) where
+  module _ (e : length b ≡ 34) where
     pub point-written : pointBody (pointOf b) ≡ b
     unfolding pointBody pointOf
     point-written =
-        glue 22 4 _ _
+        glue 30 4 _ _
+        (glue 26 4 _ _
+        (glue 22 4 _ _
         (glue 18 4 _ _
         (glue 17 1 _ _ (glue 16 1 _ _ refl (written8 b 16 (omega arith))) (ap (λ (n : ℕ). n ∷ []) (place-written (byteAt b 17)) ∙ written8 b 17 (omega arith)))
         (written32 b 18 h (omega arith)))
-        (written32 b 22 h (omega arith))
-        ∙ take-all 26 b (omega arith)
+        (written32 b 22 h (omega arith)))
+        (written32 b 26 h (omega arith)))
+        (written32 b 30 h (omega arith))
+        ∙ take-all 34 b (omega arith)
 
   module _ (e : length b ≡ 25) where
     pub par-written : parBody (parOf b) ≡ b

@@ -28,7 +28,7 @@ unfoldable pub unitBody : Unit → List ℕ
 unitBody u = (u .name ++ (u .zone ∷ [])) ++ bytes32 (u .output)
 
 unfoldable pub pointBody : Point → List ℕ
-pointBody p = (((p .name ++ (p .sort ∷ [])) ++ (placeByte (p .place) ∷ [])) ++ bytes32 (p .import)) ++ bytes32 (p .export)
+pointBody p = (((((p .name ++ (p .sort ∷ [])) ++ (placeByte (p .place) ∷ [])) ++ bytes32 (p .import)) ++ bytes32 (p .export)) ++ bytes32 (p .«wheel_in»)) ++ bytes32 (p .«wheel_out»)
 
 unfoldable pub parBody : Par → List ℕ
 parBody p = ((p .name ++ (p .class ∷ [])) ++ signed32 (p .actual)) ++ signed32 (p .target)

@@ -49,6 +49,8 @@ fn no_points() -> [DraftPoint; drafts::POINTS]
         zone: 0,
         import: 0,
         export: 0,
+        wheel_in: 0,
+        wheel_out: 0,
     };
     [none; drafts::POINTS]
 }

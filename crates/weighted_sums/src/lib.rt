@@ -39,7 +39,7 @@ fn tenfold_in(of: u8, class: u8, power: i64) -> i64
 fn net_schedule(p: Point) -> i64
     ensures { λ r. ⌜ r ≡ netSchedule p ⌝ }
 {
-    p.import as i64 - p.export as i64
+    p.import as i64 + p.wheel_in as i64 - p.export as i64 - p.wheel_out as i64
 }
 
 fn over_target(p: Par) -> i64

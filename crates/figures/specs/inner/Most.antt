@@ -18,7 +18,7 @@ mostGenerationToLoad = 400000000000
 
 -- a point's net schedule, tenths of a MW
 abbrev pub mostNet : ℕ
-mostNet = 200000
+mostNet = 400000
 
 -- parallel and shadow flow: of each of 32 points net schedule × factor × 10
 abbrev pub mostSchedule : ℕ

@@ -44,6 +44,8 @@ pub record PointFits (zones : ℕ) (p : Point) : Type 0 where
   pub place : (n : ℕ) → p .place ≡ Line n → LineFits zones n
   pub import : p .import ≤ 200000
   pub export : p .export ≤ 200000
+  pub wheel-in : p .«wheel_in» ≤ 200000
+  pub wheel-out : p .«wheel_out» ≤ 200000
 
 pub record ParFits (p : Par) : Type 0 where
   pub class-least : 1 ≤ p .class

@@ -5,6 +5,6 @@ use Rattle.record_table.specs.Table.{bodyLength}
 abbrev pub size : ℕ → ℕ
 size kind = bodyLength kind + 1
 
--- no record is longer than the head's
+-- no record is longer than a point's
 abbrev pub mostSize : ℕ
-mostSize = size 1
+mostSize = size 4

@@ -22,11 +22,25 @@ be32-at-requires c κs = search needs
 be32-at-requires-2 : tie.Need-be32-at-requires-2
 be32-at-requires-2 c κs = search needs
 
+be32-at-requires-3 : tie.Need-be32-at-requires-3
+be32-at-requires-3 c κs = search needs
+
+be32-at-requires-4 : tie.Need-be32-at-requires-4
+be32-at-requires-4 c κs = search needs
+
 returns : tie.Need-returns
 unfolding pointOf
 returns c =
-    let p = c .before .before .before in
-    rw (c .be32-at2 .ensures, c .before .be32-at .ensures, p .place-of .ensures, p .before .before .name-of .ensures)
+    let export = c .before .before in
+    let p = export .before .before .before in
+    rw (
+      c .be32-at4 .ensures,
+      c .before .be32-at3 .ensures,
+      export .be32-at2 .ensures,
+      export .before .be32-at .ensures,
+      p .place-of .ensures,
+      p .before .before .name-of .ensures,
+    )
 
 pub point-of-spec : {M : Type 1} → statement M
 point-of-spec =
@@ -38,4 +52,6 @@ point-of-spec =
     shared-slice-read-t5
     be32-at-requires
     be32-at-requires-2
+    be32-at-requires-3
+    be32-at-requires-4
     returns)
