@@ -1,6 +1,6 @@
 /*
  * The market-to-market settlement of one flowgate and one interval (document 01), of whole hours, and the writer of
- * sheets (document 02, requests 1 and 3), for C and C++.
+ * sheets (document 02, requests 1, 3 and 5), for C and C++.
  *
  *   rt staticlib exports                                        writes target/staticlib/libexports.a
  *   cc -Iinclude my.c target/staticlib/libexports.a -o my
@@ -25,7 +25,7 @@ extern "C" {
 #endif
 
 /* No listing of an accepted statement has more bytes than this. */
-#define M2M_LISTING_ROOM 288
+#define M2M_LISTING_ROOM 292
 
 /*
  * The statement. Flows and entitlement are in watts, the price in cents per MWh, amount and payments in thousandths of
@@ -120,7 +120,7 @@ typedef struct m2m_totals {
 #define M2M_MOST_POINTS 32
 #define M2M_MOST_PARS 8
 #define M2M_MOST_FACTORS 2888
-#define M2M_SHEET_ROOM 27748
+#define M2M_SHEET_ROOM 28004
 
 /*
  * The records of a sheet, with the fields and units of docs/FORMAT.md. Any value may stand in a field; the writer refuses
@@ -153,6 +153,8 @@ typedef struct m2m_point {
     uint8_t zone;
     uint32_t import_;
     uint32_t export_;
+    uint32_t wheel_in; /* energy that enters here and leaves at another point */
+    uint32_t wheel_out;
 } m2m_point;
 
 typedef struct m2m_par {

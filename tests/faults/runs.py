@@ -85,7 +85,7 @@ def interrupted_calls(run, files):
         same(run(call + ":4"), run.whole, of=call + " interrupted")
     many = ["%s:%d:4" % (call, n) for call in ("open", "read", "write") for n in range(1, 40)]
     same(run(" ".join(many)), run.whole, of="many calls interrupted")
-    for k in (1, 2, 3, 7, 20, 21, 22, 100, 313, 314, 315):
+    for k in (1, 2, 3, 7, 20, 21, 22, 100, 329, 330, 331):
         same(run("read:*:short=%d write:*:short=%d" % (k, k)), run.whole, of="%d bytes a call" % k)
     twice = ["%s:%d:4" % (call, n) for call in ("read", "write") for n in range(1, 700, 2)]
     same(run(" ".join(twice + ["read:*:short=1", "write:*:short=1"])), run.whole, of="interrupted between bytes")

@@ -21,6 +21,7 @@ static void check_draft(const m2m_draft *d) {
     CHECK(d->points[0].line == 1 && d->points[0].zone == 2);
     CHECK(d->points[0].import_ == 500 && d->points[0].export_ == 0);
     CHECK(d->points[1].line == 0 && d->points[1].zone == 0 && d->points[1].export_ == 200);
+    CHECK(d->points[0].wheel_in == 0 && d->points[0].wheel_out == 0 && d->points[1].wheel_out == 0);
     CHECK(d->par_count == 1 && named(d->pars[0].name, "T1") && d->pars[0].class_ == 1);
     CHECK(d->pars[0].actual == 400 && d->pars[0].target == 380);
     CHECK(d->factor_count == 13 && d->factors[1].factor == -1000);
@@ -63,6 +64,21 @@ static void check_altered(m2m_draft d, const file *sheet, const file *list) {
     check_draft(&again.draft);
 }
 
+/* 10 MW that enter at P1 and leave at P2: parallel 600 x 1000 x 10, shadow (300 - 200 - 100) x 400 x 10, and T1 carries
+ * 2500 x (11,250,000 + 600 x 2000 x 10) / 10,000; control is 500,000. Loads and generation stay, and so does gtl. */
+static void check_wheels(m2m_draft d, const file *list) {
+    uint8_t out[M2M_SHEET_ROOM];
+    d.points[0].wheel_in = 100;
+    d.points[1].wheel_out = 100;
+    m2m_written w = m2m_write_draft(d, out, sizeof out);
+    m2m_statement s = m2m_settle(out, w.length, list->bytes, list->length);
+    CHECK(w.refusal == 0 && s.refusal == 0 && s.gtl == 12600000 && s.parallel == 6000000 && s.shadow == 0);
+    CHECK(s.common == 5312500 && s.market == 13287500 && s.amount == 1369792);
+    m2m_drafted again = m2m_read_draft(out, w.length);
+    CHECK(again.draft.points[0].wheel_in == 100 && again.draft.points[0].wheel_out == 0);
+    CHECK(again.draft.points[1].wheel_in == 0 && again.draft.points[1].wheel_out == 100);
+}
+
 static void check_refusals(const m2m_draft *sound, size_t length) {
     m2m_draft d = *sound;
     check_refused(&d, length - 1, 27);
@@ -73,6 +89,12 @@ static void check_refusals(const m2m_draft *sound, size_t length) {
     check_refused(&d, length, 8);
     d.points[0].line = 0;
     check_refused(&d, length, 9);
+    d = *sound;
+    d.points[1].wheel_in = 200001;
+    check_refused(&d, length, 9);
+    d = *sound;
+    d.points[0].wheel_out = UINT32_MAX;
+    check_refused(&d, 0, 9);
     d = *sound;
     d.factors[1].factor = -10001;
     check_refused(&d, length, 11);
@@ -96,6 +118,7 @@ int main(int count, char **words) {
     CHECK(d.refusal == 0);
     check_draft(&d.draft);
     check_altered(d.draft, &sheet, &list);
+    check_wheels(d.draft, &list);
     check_refusals(&d.draft, sheet.length);
     d = m2m_read_draft(sheet.bytes, sheet.length - 1);
     CHECK(d.refusal == 3 && d.draft.head.name[0] == 0 && d.draft.zone_count == 0 && d.draft.factors[12].index == 0);

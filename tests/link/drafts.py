@@ -7,7 +7,16 @@ from declared import looked_at
 ARRAYS = {
     "zones": (("name", "16s"), ("load", "I"), ("losses", "I")),
     "units": (("name", "16s"), ("zone", "B"), ("output", "I")),
-    "points": (("name", "16s"), ("sort", "B"), ("line", "B"), ("zone", "B"), ("import", "I"), ("export", "I")),
+    "points": (
+        ("name", "16s"),
+        ("sort", "B"),
+        ("line", "B"),
+        ("zone", "B"),
+        ("import", "I"),
+        ("export", "I"),
+        ("wheel_in", "I"),
+        ("wheel_out", "I"),
+    ),
     "pars": (("name", "16s"), ("class", "B"), ("actual", "i"), ("target", "i")),
     "factors": (("target", "B"), ("subject", "B"), ("index", "H"), ("factor", "h")),
 }
@@ -50,7 +59,7 @@ def drawn(chance):
     for _ in points:
         line = some(2)
         place = (line, some(1, 1 + len(zones)) if line else 0)
-        records["points"].append((name(), some(1, 3), *place, some(200000), some(200000)))
+        records["points"].append((name(), some(1, 3), *place, *(some(200000) for _ in range(4))))
     for target in range(1 + len(pars)):
         for subject, count in enumerate((units, zones, points, pars if target == 0 else ()), 1):
             records["factors"] += [(target, subject, 1 + k, some(-10000, 10000)) for k in range(len(count))]

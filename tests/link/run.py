@@ -75,7 +75,8 @@ def interval(chance, monitoring):
         sheet += struct.pack(">B16sBI", 3, name("U%d" % k), 1 + k % 3, some(10000, 90000))
     for k in range(4):
         place = k % 2 and 1 + k // 2
-        sheet += struct.pack(">B16sBBII", 4, name("P%d" % k), 1 + k // 2, place, some(100), some(100))
+        schedule = (some(100) for _ in range(4))
+        sheet += struct.pack(">B16sBB4I", 4, name("P%d" % k), 1 + k // 2, place, *schedule)
     for k in range(2):
         sheet += struct.pack(">B16sBii", 5, name("T%d" % k), 1 + k, some(-9999, 9999), some(-9999, 9999))
     for target in range(3):
@@ -277,6 +278,10 @@ HEADER_EDITS = (
     ("    uint32_t seconds;\n", ""),
     ("load", "losses"),
     ("import_", "export_"),
+    ("wheel_in", "wheel_out"),
+    ("export_", "wheel_in"),
+    ("    uint32_t wheel_out;\n", ""),
+    ("uint32_t wheel_in; ", "uint16_t wheel_in; "),
     ("monitoring_price", "nonmonitoring_price"),
     ("uint8_t line; ", "uint16_t line; "),
     ("int16_t factor;", "int32_t factor;"),
@@ -299,6 +304,8 @@ RUST_EDITS = (
     ("seconds: u32,", "seconds: u64,"),
     ("    pub hour: Hour,\n", ""),
     ("import", "export"),
+    ("wheel_in", "wheel_out"),
+    ("    pub wheel_out: u32,\n", ""),
     ("load", "losses"),
     ("zones: [Zone; 33],", "zones: [Zone; 32],"),
     ("factors: [Factor; 2889],", "factors: [Factor; 2888],"),

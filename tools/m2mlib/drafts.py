@@ -37,7 +37,7 @@ def alter(draft, word, index, field, value):
     elif field.value == "PLACE":
         record.line, record.zone = value is not None, value or 0
     else:
-        setattr(record, ATTRIBUTES.get(field.name, field.name), value)
+        setattr(record, ATTRIBUTES.get(field.name, field.name.replace(" ", "_")), value)
 
 
 class Records:

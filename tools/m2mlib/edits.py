@@ -7,8 +7,9 @@ proved writer wrote.
 
 import re
 from collections import Counter
+from typing import NamedTuple
 
-from .forms import show_record
+from .forms import left_out, show_record
 from .lines import word_spans
 from .records import BY_NUMBER, BY_WORD, SHEET, split
 from .text import Text
@@ -17,6 +18,15 @@ from .trouble import Trouble
 MARK = b"\xef\xbb\xbf"
 LINE_END = re.compile(r"(\r\n|\r|\n)")
 BEFORE = {"replace": 2, "insert": 2}  # how many words stand before the record's
+
+
+class Edit(NamedTuple):
+    """Other words from one place of a line to another; of several at one place the order tells which is first."""
+
+    at: int
+    end: int
+    order: int
+    words: str
 
 
 def edited(text, changes, data, path):
@@ -42,18 +52,18 @@ def differs(new, data, path):
 
 def with_changes(text, changes, records, in_place):
     """The text with the changes: each in place, where that is wanted and can be, or behind the text."""
-    found, spans, behind = places(records), {}, {}
+    found, edits, behind = places(records), {}, {}
     uses = Counter((piece.line.name, piece.line.number) for piece in text.pieces)
     for change in changes:
         place = found[change.kind, change.index]
-        line, span = text.pieces[place].line, None
+        line, edit = text.pieces[place].line, None
         if in_place and line.name == text.name:
-            span = value_span(line, uses[line.name, line.number], change.field, records[place])
-        if span:
-            spans.setdefault(line.number, []).append((*span, " ".join(change.words)))
+            edit = edit_of(line, uses[line.name, line.number], change, records[place])
+        if edit:
+            edits.setdefault(line.number, []).append(edit)
         else:
             behind[place] = f"replace {place + 1} {show_record(records[place])}"
-    return joined(text.source, spans, behind.values())
+    return joined(text.source, edits, behind.values())
 
 
 def places(records):
@@ -66,24 +76,36 @@ def places(records):
     return found
 
 
-def value_span(line, uses, field, record):
-    """Where a field's words begin and end in the line of a record, or None where it has none of its own."""
-    words = line.words
+def edit_of(line, uses, change, record):
+    """What a change is in the line of a record, or None where the record has none of its own."""
+    words, field = line.words, change.field
     if words[0].lower() == "factors" and uses == len(words) - 3:
         first = last = 2 + int.from_bytes(record[3:5], "big")
     elif uses == 1:
         first, last = value_words(words, field)
     else:
         return None
-    spans = word_spans(line.text)
-    return (spans[first][0], spans[last][1]) if 0 < last < len(spans) else None
+    spans, new = word_spans(line.text), " ".join(change.words)
+    if not 0 < last < len(spans):
+        return None
+    order = BY_WORD[change.kind].fields.index(field)
+    if last < first:
+        return Edit(spans[last][1], spans[last][1], order, f" {field.label} {new}")
+    return Edit(spans[first][0], spans[last][1], order, new)
 
 
 def value_words(words, field):
-    """The first and last word of a field in a record's line; 0 where the line is none."""
+    """The first and last word of a field in a record's line; 0 where the line is none.
+
+    Where the field is left out the last is the word behind which it belongs, and the first the next one.
+    """
     at = BEFORE.get(words[0].lower(), 0)
     kind = BY_WORD.get(words[at].lower())
     for other in kind.fields if kind else ():
+        if left_out(other, words[at + 1 : at + 2]):
+            if other == field:
+                return at + 1, at
+            continue
         at += 2 if other.label else 1
         last = at + (other.value == "PLACE" and words[at].lower() == "line")
         if other == field:
@@ -92,14 +114,14 @@ def value_words(words, field):
     return 0, 0
 
 
-def joined(source, spans, behind):
-    """The source with other words at these places of its lines, and lines behind it."""
+def joined(source, edits, behind):
+    """The source with these edits of its lines, and lines behind it."""
     mark = MARK if source.startswith(MARK) else b""
     parts = LINE_END.split(source[len(mark) :].decode("latin-1"))
-    for number, changed in spans.items():
-        for at, end, words in sorted(changed, reverse=True):
+    for number, changed in edits.items():
+        for edit in sorted(changed, reverse=True):
             line = parts[2 * number - 2]
-            parts[2 * number - 2] = line[:at] + words + line[end:]
+            parts[2 * number - 2] = line[: edit.at] + edit.words + line[edit.end :]
     line_end = parts[1] if parts[1:] else "\n"
     if behind and parts[-1]:
         parts.append(line_end)

@@ -48,6 +48,9 @@ def write_fields(kind, words, zones):
     """The record of these words; all values that are wrong are told at once."""
     record, left, wrong = bytearray([kind.number]), words[::-1], []
     for field in kind.fields:
+        if left_out(field, left[-1:]):
+            record += field.default.to_bytes(field.size, "big")
+            continue
         if field.label:
             expect(field.label, left)
         if not left:
@@ -61,6 +64,11 @@ def write_fields(kind, words, zones):
     if wrong:
         raise Fault("; ".join(wrong))
     return bytes(record)
+
+
+def left_out(field, words):
+    """Whether a field that may be left out is, where this word or none stands next."""
+    return field.default is not None and [word.lower() for word in words] != [field.label]
 
 
 def expect(wanted, left):
@@ -130,6 +138,8 @@ def show_record(record):
     """The line of a whole record of a known kind."""
     words = [BY_NUMBER[record[0]].word]
     for field, value in values(record):
+        if value == field.default:
+            continue
         words += [field.label] if field.label else []
         if field.value == "NAME":
             words.append(name_word(value))

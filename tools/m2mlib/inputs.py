@@ -4,6 +4,7 @@ import os
 import re
 from typing import NamedTuple
 
+from .earlier import tell_earlier
 from .files import read_file
 from .text import Text
 from .trouble import Trouble
@@ -38,9 +39,10 @@ def is_text(path, data):
 
 
 def load(path):
-    """A sheet or list, from text or bytes."""
+    """A sheet or list, from text or bytes; of a sheet's bytes in the earlier form that is said."""
     data = read_file(path)
     if not is_text(path, data):
+        tell_earlier(path, data)
         return Input(path, data)
     text = Text(path).read(data)
     return Input(path, text.data(), text)

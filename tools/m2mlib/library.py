@@ -6,9 +6,9 @@ from typing import NamedTuple
 from . import build
 from .trouble import Trouble
 
-ROOM = 288  # include/m2m.h: no listing is longer
+ROOM = 292  # include/m2m.h: no listing is longer
 INTERVALS = 60  # include/m2m.h: no hour holds more
-LONGEST_SHEET = 27_748  # docs/FORMAT.md, 'The longest sheet'
+LONGEST_SHEET = 28_004  # docs/FORMAT.md, 'The longest sheet'
 
 
 class Figure(NamedTuple):
@@ -136,6 +136,8 @@ class Point(ctypes.Structure):
         ("zone", ctypes.c_uint8),
         ("import_", ctypes.c_uint32),
         ("export", ctypes.c_uint32),
+        ("wheel_in", ctypes.c_uint32),
+        ("wheel_out", ctypes.c_uint32),
     ]
 
 

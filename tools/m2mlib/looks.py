@@ -3,11 +3,12 @@
 import os
 from collections import Counter
 
+from .earlier import WORDS, is_earlier
 from .faults import faults
 from .files import encoded, read_file
 from .forms import show
 from .inputs import LISTS, SHEETS, is_text, load
-from .records import LIST, kinds_of, split
+from .records import LIST, SHEET, kinds_of, split
 from .text import Text
 from .trouble import Fault, Trouble
 
@@ -46,7 +47,8 @@ def faults_of(path):
         except Fault as fault:
             return [str(kept) for kept in (*text.faults.values(), fault)], 0
     kinds = LIST if os.path.basename(path) in LISTS else kinds_of(data)
-    return faults(data, kinds, text), len(list(split(data, kinds)))
+    first = [WORDS] if not text and kinds == SHEET and is_earlier(data) else []
+    return first + faults(data, kinds, text), len(list(split(data, kinds)))
 
 
 def show_file(call):

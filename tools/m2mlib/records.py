@@ -30,6 +30,7 @@ class Field:
     high: int = 0
     wanted: str = COUNT
     codes: dict = None
+    default: int = None  # what it is where a line leaves it out; None: it never may
 
     @cached_property
     def label(self):
@@ -66,7 +67,8 @@ class Kind:
     @cached_property
     def form(self):
         """The form of a line; both that a point has, parted by a line feed."""
-        line = " ".join([self.word] + [field.form for field in self.fields])
+        forms = (field.form if field.default is None else f"[{field.form}]" for field in self.fields)
+        line = " ".join([self.word, *forms])
         if "PLACE" not in line:
             return line
         return line.replace("PLACE", "proxy") + "\n" + line.replace("PLACE", "line ZONE")
@@ -79,8 +81,8 @@ class Kind:
 NAME = Field("name", 16, "NAME")
 
 
-def power(name, most, least=0):
-    return Field(name, 4, name + " N", least, most, TENTHS)
+def power(name, most, least=0, default=None):
+    return Field(name, 4, name.replace(" ", "-") + " N", least, most, TENTHS, default=default)
 
 
 KINDS = (
@@ -103,6 +105,8 @@ KINDS = (
         Field("place", 1, "PLACE"),
         power("import", 200_000),
         power("export", 200_000),
+        power("wheel in", 200_000, default=0),
+        power("wheel out", 200_000, default=0),
     )),
     Kind(5, "par", 8, (
         NAME,

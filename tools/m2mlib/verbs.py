@@ -6,6 +6,7 @@ import sys
 from typing import Callable, NamedTuple
 
 from .cases import case_files, case_lines
+from .earlier import tell_earlier
 from .files import read_file, read_input
 from .forms import show
 from .hour import hour
@@ -51,6 +52,12 @@ def to_bytes(paths):
     yield Text().read(read_input()).data()
 
 
+def shown_sheet(paths):
+    data = read_input()
+    tell_earlier("standard input", data)
+    yield show(data, SHEET).encode("ascii")
+
+
 def cases(paths):
     for path in case_files(paths):
         for line in case_lines(path):
@@ -60,7 +67,7 @@ def cases(paths):
 TEXT_JOBS = {
     "sheet": to_bytes,
     "entitlements": to_bytes,
-    "show-sheet": lambda paths: [show(read_input(), SHEET).encode("ascii")],
+    "show-sheet": shown_sheet,
     "show-entitlements": lambda paths: [show(read_input(), LIST).encode("ascii")],
     "cases": cases,
 }

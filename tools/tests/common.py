@@ -43,6 +43,11 @@ def to_bytes(text, **named):
     return Text(**named).read(text.encode() if isinstance(text, str) else text).data()
 
 
+def earlier(data):
+    """A sheet's bytes in the earlier form, in which a point has 26 bytes behind its kind."""
+    return b"".join(record[:27] if record[0] == 4 else record for record in split(data, SHEET))
+
+
 def draft_of(data):
     """The draft of an accepted sheet."""
     draft = Draft()

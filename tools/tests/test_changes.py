@@ -30,6 +30,8 @@ EACH_FIELD = (
     ("place of point P2 line Z2", "proxy", "line Z2"),
     ("import of P1 600", "import 500", "import 600"),
     ("export of P2 0", "export 200", "export 0"),
+    ("wheel-in of P1 100", "import 500 export 0", "import 500 export 0 wheel-in 100"),
+    ("wheel-out of point P2 200_000", "export 200", "export 200 wheel-out 200_000"),
     ("name of T1 Z1", "par T1", "par Z1"),
     ("class of T1 noncommon", "T1 common", "T1 noncommon"),
     ("actual of par T1 -200000", "actual 400", "actual -200000"),
@@ -75,6 +77,7 @@ class Understood(unittest.TestCase):
             ("Non-Monitoring price of head 5", "nonmonitoring price of HEAD 5"),
             ("place of P2 line 2", 'place of "P2" LINE "Z2"'), ("type of P1 1", "type of point P1 Common"),
             ("factor of 0 unit 1 5", "Factor of 0 1 1 5  # of U1"), ("import of P1 600", "\timport  of P1 +6_00"),
+            ("wheel-in of P1 100", "Wheel In of P1 100"), ("wheel-out of P1 100", "wheelout of point P1 0x64"),
         ):
             self.assertEqual(altered(change)[1], altered(same)[1], same)
 
@@ -132,7 +135,8 @@ class Told(unittest.TestCase):
             ("index of 0 unit 1 2", "'index' is no field"), ("5", "'5' is no field"),
             ('"load" of Z1 5', "is no field"),
             ("load of U1 5", "a unit has no load; it has name, zone, output"),
-            ("class of P1 1", "a point has no class; it has name, type, place, import, export"),
+            ("class of P1 1", "a point has no class; it has name, type, place, import, export, wheel-in, wheel-out"),
+            ("wheel-in of T1 5", "a par has no wheel-in"), ("wheel of P1 5", "'wheel' is no field"),
             ("load of head 5", "a head has no load"), ("import of unit U1 5", "a unit has no import"),
             ("target of unit U1 5", "a unit has no target"), ("", "FIELD of RECORD VALUE is wanted"),
             ("# load of Z1 5", "FIELD of RECORD VALUE is wanted"),
@@ -177,6 +181,7 @@ class Told(unittest.TestCase):
             ("place of P1", "the value is missing"), ("place of P1 Z1", "'proxy' or 'line' is expected"),
             ("place of P1 line", "the line's zone is missing"), ("place of P1 line Q", "there is no zone Q"),
             ("place of P1 proxy Z1 Z2", "'Z1' is one word too many"), ("place of P1 line 300", "does not fit its 8"),
+            ("wheel-in of P1", "the value is missing"), ("wheel out of P1 -1", "wheel out -1 does not fit its 32 bits"),
             ("name of Z1 ABCDEFGHIJKLMNOPQ", "more than 16"), ("name of Z1 A B", "'B' is one word too many"),
             ('name of Z1 "\\q"', "unknown escape"), ("load of Z1 " + "9" * 5000, "does not fit any field"),
         ):

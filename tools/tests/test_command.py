@@ -54,8 +54,8 @@ class Command(unittest.TestCase):
         outcome = run("show", os.path.join(SAMPLE, "sheet.txt"))
         lines = outcome.stdout.decode().splitlines()
         self.assertIn("    53     2  zone Z2 load 1950 losses 50", lines)
-        self.assertIn("   286    13  factor 1 point 2 0", lines)
-        self.assertEqual(lines[-1].split(), ["293", "the", "end"])
+        self.assertIn("   302    13  factor 1 point 2 0", lines)
+        self.assertEqual(lines[-1].split(), ["309", "the", "end"])
 
     def test_show_damaged_bytes(self):
         with tempfile.TemporaryDirectory() as folder:

@@ -66,6 +66,24 @@ class InPlace(unittest.TestCase):
                 if old in line:
                     self.assert_edited(text, text.replace(line, line.replace(old, new, 1)), change)
 
+    def test_wheels_are_put_in_their_place(self):
+        for tail, new, *changes in (
+            ("0", "0 wheel-in 100", "wheel-in of P1 100"),
+            ("0", "0 wheel-out 100", "wheel-out of P1 100"),
+            ("0", "0 wheel-in 1 wheel-out 2", "wheel-out of P1 2", "wheel-in of P1 1"),
+            ("0", "7 wheel-in 1 wheel-out 2", "wheel-in of P1 1", "export of P1 7", "wheel-out of P1 2"),
+            ("0# export 0", "0 wheel-in 100# export 0", "wheel-in of P1 100"),
+            ("$(1 - 1)  # $(", "$(1 - 1) wheel-out 100  # $(", "wheel-out of P1 100"),
+            ("0  wheel-out 5 # out", "0 wheel-in 100  wheel-out 5 # out", "wheel-in of P1 100"),
+            ("0  wheel-out 5 # out", "0 wheel-in 1  wheel-out 2 # out", "wheel-in of P1 1", "wheel-out of P1 2"),
+            ("0 WHEEL-IN  5 # in", "0 WHEEL-IN  6 wheel-out 7 # in", "wheel-in of P1 6", "wheel-out of P1 7"),
+            ("0 wheel-in 5 wheel-out 6", "0 wheel-in 0 wheel-out 6", "wheel-in of P1 0"),
+            ("0", "0 wheel-in 0", "wheel-in of P1 0"),
+        ):
+            old, line = (f"point P1 noncommon line 2 import 500 export {words}" for words in (tail, new))
+            text = TEXT.replace("point P1 noncommon line 2 import 500 export 0", old)
+            self.assert_edited(text, text.replace(old, line), *changes)
+
     def test_ends_of_lines_and_marks_stay(self):
         for end in ("\r\n", "\r", "\n"):
             for last in (end, ""):
@@ -112,6 +130,15 @@ class Behind(unittest.TestCase):
         once = with_changes(text, "output of U2 5").decode()
         self.assertEqual(with_changes(once, "output of U2 6").decode(), once.replace("output 5", "output 6"))
         self.assertEqual(with_changes(once, "zone of U2 B").decode(), once.replace("U2 zone 1", "U2 zone B"))
+
+    def test_wheels(self):
+        text = MANY.replace("repeat i 1 1", "repeat i 1 2") + "due 0\n"
+        line = "replace 8 point P2 common line 2 import 20 export 0 wheel-in 100"
+        self.assert_behind(text, line, changes=["wheel-in of P2 100"])
+        self.assert_behind(text, line + " wheel-out 7", changes=["wheel-out of P2 7", "wheel-in of P2 100"])
+        once = text + line + " # more\n"
+        again = once.replace("100 #", "100 wheel-out 7 #")
+        self.assertEqual(with_changes(once, "wheel-out of P2 7").decode(), again)
 
     def test_included_texts(self):
         text = "include samples/sheet-s/sheet.txt # as it is\n"

@@ -19,6 +19,12 @@ class Shown(unittest.TestCase):
         shown = show(to_bytes(text), SHEET)
         self.assertEqual(shown.split("\n"), [x for x in text.split("\n") if x[:1] != "#"])
 
+    def test_wheels_are_shown_where_they_are_not_0(self):
+        line = "point P common proxy import 1 export 2"
+        for words in ("", " wheel-in 3", " wheel-out 4", " wheel-in 3 wheel-out 4", " wheel-out 4294967295"):
+            self.assertEqual(show(to_bytes(line + words), SHEET), line + words + "\n")
+        self.assertEqual(show(to_bytes(line + " wheel-in 0 wheel-out 0"), SHEET), line + "\n")
+
     def test_any_bytes(self):
         chance = random.Random(1)
         for length in range(200):

@@ -22,11 +22,15 @@ class Records(unittest.TestCase):
             ("unit U1 zone 1 output 1200", "03 55310000000000000000000000000000 01 000004b0"),
             (
                 "point P1 noncommon line 2 import 500 export 0",
-                "04 50310000000000000000000000000000 02 02 000001f4 00000000",
+                "04 50310000000000000000000000000000 02 02 000001f4 00000000 00000000 00000000",
             ),
             (
                 "point P2 common proxy import 300 export 200",
-                "04 50320000000000000000000000000000 01 00 0000012c 000000c8",
+                "04 50320000000000000000000000000000 01 00 0000012c 000000c8 00000000 00000000",
+            ),
+            (
+                "point P3 common proxy import 1 export 2 wheel-in 200000 wheel-out 4",
+                "04 50330000000000000000000000000000 01 00 00000001 00000002 00030d40 00000004",
             ),
             (
                 "par T1 common actual -1 target 380",
@@ -57,6 +61,16 @@ class Records(unittest.TestCase):
         self.assertEqual(to_bytes("par T Common actual 0 target 0")[17], 1)
         self.assertNotEqual(to_bytes("zone z load 0 losses 0"), to_bytes("zone Z load 0 losses 0"))
 
+    def test_wheels_that_are_left_out_are_0(self):
+        line = "point P common proxy import 1 export 2"
+        for words, wheels in (
+            ("", "00000000 00000000"), (" wheel-in 3", "00000003 00000000"), (" wheel-out 4", "00000000 00000004"),
+            (" wheel-in 3 wheel-out 4", "00000003 00000004"), (" WHEEL-IN 0 Wheel-Out 0x4", "00000000 00000004"),
+        ):
+            self.assertEqual(to_bytes(line + words)[27:], bytes.fromhex(wheels), words)
+            self.assertEqual(to_bytes(line + words)[:27], to_bytes(line)[:27], words)
+        self.assertEqual(to_bytes('point wheel-in 1 line 1 import 1 export 2 # wheel-in 3')[27:], bytes(8))
+
     def test_zones_by_name(self):
         for line in ("unit U zone B output 1", 'unit U zone "B" output 1', "unit U zone 2 output 1"):
             self.assertEqual(to_bytes(ZONES + line)[50:], to_bytes("unit U zone 2 output 1"))
@@ -83,7 +97,7 @@ class Records(unittest.TestCase):
 
 class Shortened(unittest.TestCase):
     def test_the_longest_sheet_in_a_few_lines(self):
-        self.assertEqual(len(to_bytes(LONGEST)), 27_748)
+        self.assertEqual(len(to_bytes(LONGEST)), 28_004)
 
     def test_a_full_list(self):
         self.assertEqual(len(to_bytes("repeat k 1 2500\nentitlement F$k $(k - 1)\nend")), 2500 * 21)
@@ -157,6 +171,10 @@ class Refused(unittest.TestCase):
             "factor 0 unit 1 $(1 // 0)", "factor 0 unit 1 $(2 +)", "factor 0 unit 1 $()",
             "unit U zone Q output 1", "unit U zone 300 output 1", "point P common beside import 1 export 1",
             "point P common line", "zone Z load 1 losses 1 more", "sheet", "zone Z load 0x losses 0",
+            "point P common proxy import 1 export 1 wheel-in", "point P common proxy import 1 export 1 wheel-out x",
+            "point P common proxy import 1 export 1 wheel-out 1 wheel-in 1",
+            "point P common proxy import 1 export 1 wheel-in 1 wheel-in 1", "zone Z load 1 losses 1 wheel-in 1",
+            "point P common proxy import 1 wheel-in 1", "point P common proxy import 1 export 1 wheel in 1",
             "factor 0 unit 1 $(" + "(" * 200 + "1" + ")" * 200 + ")",
             "factor 0 unit 1 " + "9" * 5000, "factor 0 unit 1 $(" + "9" * 5000 + ")",
             "factor 0 unit 1 $(" + "9999999999*" * 50 + "1)", "zone \xa0Z load 0 losses 0",
@@ -170,7 +188,7 @@ class Refused(unittest.TestCase):
             ("zone Z load 1 loses 2", "zone NAME load N losses N"),
             ("zoen Z load 1 losses 2", "zone NAME load N losses N"),
             ('unit "U zone 1 output 1', "unit NAME zone ZONE output N"),
-            ("point P common", "point NAME CLASS line ZONE import N export N"),
+            ("point P common", "point NAME CLASS line ZONE import N export N [wheel-in N] [wheel-out N]"),
             ("cut", "cut N"),
             ("repeat i", "repeat VAR FROM TO"),
         ):
