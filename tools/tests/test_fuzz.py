@@ -21,7 +21,8 @@ from test_changes import EACH_FIELD
 COUNT = 20_000
 WORDS = [
     *(word.encode() for word in (*FORMS, *DIRECTIVES)), b"head", b"zone", b"unit", b"point", b"par",
-    b"factor", b"entitlement", b"line", b"proxy", b"$i", b"$(i", b"$((1)", b")", b'"', b'"$', b"\\x",
+    b"factor", b"entitlement", b"line", b"proxy", b"wheel-in", b" wheel-out 1",
+    b"$i", b"$(i", b"$((1)", b")", b'"', b'"$', b"\\x",
     b"#", b"\r", b"\n", b"\r\n", b"\0", b"\xff", b"\xef\xbb\xbf", b"\xc3\xbc", b"-", b"-1", b"0x", b"1e9",
     b"120.0", b"1,200", b"99999999999999999999", b"1 99", b"due $(target)", b"end", b"repeat i 1 3\n",
     b"include samples/sheet-s/sheet.txt\n", b"\n" * 3, b" ", b"\t", b"(" * 60, b"NYISO", b"non-common",
@@ -29,8 +30,8 @@ WORDS = [
 
 
 def texts():
-    """Sound texts to begin with: the sample's, and the sections of the cases that are short."""
-    sound = [content("samples/sheet-s/sheet.txt"), content("samples/sheet-s/entitle.txt")]
+    """Sound texts to begin with: the samples', and the sections of the cases that are short."""
+    sound = [content("samples", name) for name in ("sheet-s/sheet.txt", "sheet-s/entitle.txt", "wheels/sheet.txt")]
     for path in case_files([os.path.join(ROOT, "tests/cases")]):
         lines = content(path).splitlines(True)
         text = b"".join(line for line in lines if line.startswith(b" "))

@@ -58,11 +58,11 @@ class Drafts(unittest.TestCase):
 
     def test_the_buffer_is_as_before_but_for_the_sheet(self):
         draft = library.read_draft(SHEET_S).draft
-        for seconds, room, front in ((300, 300, SHEET_S), (300, 292, b""), (901, 300, b"")):
+        for seconds, room, front in ((300, 320, SHEET_S), (300, 308, b""), (901, 320, b"")):
             draft.head.seconds = seconds
-            out = ctypes.create_string_buffer(b"\x5a" * 300, 300)
+            out = ctypes.create_string_buffer(b"\x5a" * 320, 320)
             library.draft_write(draft, out, room)
-            self.assertEqual(out.raw, front.ljust(300, b"\x5a"))
+            self.assertEqual(out.raw, front.ljust(320, b"\x5a"))
 
     def test_the_examples_of_refusals(self):
         for example in refusals()[27].examples:
@@ -78,6 +78,7 @@ class Drafts(unittest.TestCase):
             ("head", "seconds", 0, 9),
             ("head", "monitoring_rto", 3, 8), ("zones", "load", 2_000_001, 9), ("units", "zone", 3, 8),
             ("points", "sort", 0, 8), ("points", "import_", 200_001, 9), ("pars", "class_", 3, 8),
+            ("points", "wheel_in", 200_001, 9), ("points", "wheel_out", 0xFFFF_FFFF, 9),
             ("pars", "actual", -200_001, 9), ("factors", "target", 1, 10), ("factors", "factor", 10_001, 11),
         ):
             draft = library.read_draft(SHEET_S).draft
@@ -168,6 +169,17 @@ class Command(unittest.TestCase):
             self.assertNotEqual(content(once), content(path))
             self.assert_set(twice, once, *back, content_is=content(path))
 
+    def test_wheels_there_and_back(self):
+        there, back = (["wheel-in of P1 %d" % k, "wheel-out of P2 %d" % k] for k in (150, 0))
+        once, twice = self.inside("sheet.new.txt", "sheet.new-2.txt")
+        wheeled = TEXT.replace("export 0", "export 0 wheel-in 150").replace("export 200", "export 200 wheel-out 150")
+        self.assert_set(once, self.text, *there, content_is=wheeled.encode())
+        self.assert_set(twice, once, *back, content_is=wheeled.replace(" 150\n", " 0\n").encode())
+        self.assertEqual(to_bytes(content(twice)), SHEET_S)
+        once, twice = self.inside("sheet.new.bin", "sheet.new-2.bin")
+        self.assert_set(once, self.data, *there, content_is=to_bytes(wheeled))
+        self.assert_set(twice, once, *back, content_is=SHEET_S)
+
     def test_names_that_are_free(self):
         names = self.inside("sheet.new.bin", "sheet.new-2.bin", "sheet.new-3.bin")
         for new in names:
@@ -200,6 +212,8 @@ class Command(unittest.TestCase):
             ("class of T1 9", 8, "9 is none of"), ("seconds 901", 9, "seconds 901 is not in 1..900"),
             ("monitoring price 400001", 9, "not in 0..400000"), ("losses of Z1 2000001", 9, "not in 0..2000000"),
             ("output of U1 2000001", 9, "not in 0..2000000"), ("export of P1 200001", 9, "not in 0..200000"),
+            ("wheel-in of P1 200001", 9, "wheel in 200001 is not in 0..200000"),
+            ("wheel-out of P2 0xffffffff", 9, "wheel out 4294967295 is not in 0..200000"),
             ("actual of T1 -200001", 9, "not in -200000..200000"),
             ("factor of 0 unit 1 10001", 11, "not in -10000..10000"),
         ):

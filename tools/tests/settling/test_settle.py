@@ -145,6 +145,10 @@ class Command(unittest.TestCase):
                           ["--list", text[1], data[0]]):
             self.assertEqual(self.assert_settled(*arguments).stderr, b"")
 
+    def test_the_sample_with_wheels(self):
+        folder = os.path.join(ROOT, "samples", "wheels")
+        self.assertEqual(self.assert_settled(folder, output=content(folder, "listing.txt")).stderr, b"")
+
     def test_bytes_are_told_by_content(self):
         folder = self.inside("a", sheet=SHEET_S, list=LIST_S)
         self.assert_settled(os.path.join(folder, "sheet"), os.path.join(folder, "list"))
