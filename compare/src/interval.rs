@@ -40,6 +40,26 @@ pub struct Point {
     pub place: u8,
     pub import: u32,
     pub export: u32,
+    pub wheel_in: u32,
+    pub wheel_out: u32,
+}
+
+impl Point {
+    /// In their order on a sheet.
+    pub fn schedules(&self) -> [u32; 4] {
+        [self.import, self.export, self.wheel_in, self.wheel_out]
+    }
+
+    pub fn schedules_mut(&mut self) -> [&mut u32; 4] {
+        let Point {
+            import,
+            export,
+            wheel_in,
+            wheel_out,
+            ..
+        } = self;
+        [import, export, wheel_in, wheel_out]
+    }
 }
 
 #[derive(Clone)]
@@ -75,7 +95,7 @@ impl Record {
             Record::Head(it) => draft::head(it.name, it.monitoring, it.seconds, it.prices),
             Record::Zone(it) => draft::zone(it.name, it.load, it.losses),
             Record::Unit(it) => draft::unit(it.name, it.zone, it.output),
-            Record::Point(it) => draft::point(it.name, it.class, it.place, it.import, it.export),
+            Record::Point(it) => draft::point(it.name, it.class, it.place, it.schedules()),
             Record::Par(it) => draft::par(it.name, it.class, it.actual, it.target),
             Record::Factor(it) => draft::factor(it.target, it.subject, it.index, it.value),
         }
@@ -184,6 +204,8 @@ impl Interval {
             place: 0,
             import: 0,
             export: 0,
+            wheel_in: 0,
+            wheel_out: 0,
         });
         self.flowgate.points.push(0);
         for factors in &mut self.on_pars {
@@ -389,6 +411,7 @@ pub fn drawn(chance: &mut Chance, sizes: Sizes, scale: Scale) -> Interval {
     }
     schedule(chance, &mut interval);
     let reach = scale.power.min(*SCHEDULES.end());
+    draw_wheels(chance, &mut interval, reach);
     for par in &mut interval.pars {
         par.actual = signed_value(chance, reach) as i32;
         par.target = signed_value(chance, reach) as i32;
@@ -487,6 +510,24 @@ fn take(chance: &mut Chance, rest: &mut i64) -> u32 {
     taken as u32
 }
 
+/// Draws wheels for two points of three, in, out or both. No load and no output bounds
+/// them.
+fn draw_wheels(chance: &mut Chance, interval: &mut Interval, largest: i64) {
+    for point in &mut interval.points {
+        let wheels = [0; 2].map(|_| value(chance, largest) as u32);
+        let [wheel_in, wheel_out] = wheels;
+        let some = [
+            wheels,
+            wheels,
+            [wheel_in, 0],
+            [0, wheel_out],
+            [0; 2],
+            [0; 2],
+        ];
+        [point.wheel_in, point.wheel_out] = chance.pick(&some);
+    }
+}
+
 fn draw_factors(chance: &mut Chance, interval: &mut Interval, largest: i64) {
     let Interval {
         flowgate, on_pars, ..
@@ -524,6 +565,6 @@ mod tests {
     fn the_longest_sheet_has_its_length() {
         let chance = &mut Chance::of(4, 0);
         let longest = drawn(chance, Sizes::LONGEST, Scale::FULL);
-        assert_eq!(longest.records().concat().len(), 27_748);
+        assert_eq!(longest.records().concat().len(), 28_004);
     }
 }

@@ -37,6 +37,8 @@ pub struct Point {
     pub place: Place,
     pub import: u32,
     pub export: u32,
+    pub wheel_in: u32,
+    pub wheel_out: u32,
 }
 
 #[derive(Clone, Copy, Debug, PartialEq, Eq)]
@@ -143,6 +145,8 @@ fn point(point: &sheet::Point) -> Point {
         place: point.place,
         import: point.import.0 as u32,
         export: point.export.0 as u32,
+        wheel_in: point.wheel_in.0 as u32,
+        wheel_out: point.wheel_out.0 as u32,
     }
 }
 

@@ -75,6 +75,8 @@ fn points(points: &[Point], zones: usize) -> Verdict {
         }
         within(SCHEDULES, point.import.into())?;
         within(SCHEDULES, point.export.into())?;
+        within(SCHEDULES, point.wheel_in.into())?;
+        within(SCHEDULES, point.wheel_out.into())?;
     }
     Ok(())
 }

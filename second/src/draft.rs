@@ -40,12 +40,19 @@ pub fn unit(name: NameField, zone: u8, output: u32) -> Vec<u8> {
     record(Kind::Unit as u8, &[&name, &[zone], &output.to_be_bytes()])
 }
 
-/// Place 0 is a proxy.
-pub fn point(name: NameField, class: u8, place: u8, import: u32, export: u32) -> Vec<u8> {
-    let (import, export) = (import.to_be_bytes(), export.to_be_bytes());
+/// Place 0 is a proxy. The schedules are import, export, wheel in and wheel out.
+pub fn point(name: NameField, class: u8, place: u8, schedules: [u32; 4]) -> Vec<u8> {
+    let [import, export, wheel_in, wheel_out] = schedules.map(u32::to_be_bytes);
     record(
         Kind::Point as u8,
-        &[&name, &[class, place], &import, &export],
+        &[
+            &name,
+            &[class, place],
+            &import,
+            &export,
+            &wheel_in,
+            &wheel_out,
+        ],
     )
 }
 
@@ -72,8 +79,8 @@ pub fn sheet_s() -> Vec<Vec<u8>> {
         zone(named("Z2"), 1950, 50),
         unit(named("U1"), 1, 1200),
         unit(named("U2"), 2, 2000),
-        point(named("P1"), 2, 2, 500, 0),
-        point(named("P2"), 1, 0, 300, 200),
+        point(named("P1"), 2, 2, [500, 0, 0, 0]),
+        point(named("P2"), 1, 0, [300, 200, 0, 0]),
         par(named("T1"), 1, 400, 380),
     ];
     let due = [(1, 1), (1, 2), (2, 1), (2, 2), (3, 1), (3, 2), (4, 1)];
@@ -85,6 +92,14 @@ pub fn sheet_s() -> Vec<Vec<u8>> {
     for ((subject, index), value) in due.into_iter().zip(par) {
         records.push(factor(1, subject, index, value));
     }
+    records
+}
+
+/// Sheet S where P1 wheels in 70 and out 30, P2 in 20 and out 50.
+pub fn sheet_s_with_wheels() -> Vec<Vec<u8>> {
+    let mut records = sheet_s();
+    records[5] = point(name(b"P1"), 2, 2, [500, 0, 70, 30]);
+    records[6] = point(name(b"P2"), 1, 0, [300, 200, 20, 50]);
     records
 }
 

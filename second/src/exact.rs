@@ -89,7 +89,8 @@ fn points_flow(sheet: &Sheet, target: Target, class: Class) -> i64 {
     let mut flow = 0;
     for (point, factor) in sheet.points.iter().zip(factors) {
         if point.class == class {
-            flow += (point.import.0 - point.export.0) * factor.0 * 10;
+            let net = point.import.0 + point.wheel_in.0 - point.export.0 - point.wheel_out.0;
+            flow += net * factor.0 * 10;
         }
     }
     flow

@@ -1,8 +1,12 @@
 //! From the generation-to-load flow to the market flow: steps 4 to 6.
 
 use crate::generation_to_load::{self, Balance, GenerationToLoad};
-use crate::sheet::{Class, FLOWGATE, Rto, Sheet, Subject, Target};
-use crate::units::{FineWatts, TensOfWatts, Watts};
+use crate::sheet::{Class, FLOWGATE, Point, Rto, Sheet, Subject, Target};
+use crate::units::{FineWatts, Power, TensOfWatts, Watts};
+
+fn net_schedule(point: &Point) -> Power {
+    point.import + point.wheel_in - point.export - point.wheel_out
+}
 
 /// Step 4: parallel flow over the non-common points, shadow flow over the common.
 pub fn scheduled_flow(sheet: &Sheet, target: Target, class: Class) -> Watts {
@@ -10,7 +14,7 @@ pub fn scheduled_flow(sheet: &Sheet, target: Target, class: Class) -> Watts {
         .factors(target, Subject::Point)
         .zip(&sheet.points)
         .filter(|(_, point)| point.class == class)
-        .map(|(factor, point)| (point.import - point.export) * factor)
+        .map(|(factor, point)| net_schedule(point) * factor)
         .sum::<TensOfWatts>()
         .watts()
 }

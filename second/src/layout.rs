@@ -33,7 +33,7 @@ impl Kind {
             Kind::Head => 27,
             Kind::Zone => 24,
             Kind::Unit => 21,
-            Kind::Point => 26,
+            Kind::Point => 34,
             Kind::Par => 25,
             Kind::Factor => 6,
         }
@@ -48,13 +48,13 @@ pub const MOST_UNITS: usize = 256;
 pub const MOST_POINTS: usize = 32;
 pub const MOST_PARS: usize = 8;
 /// How many bytes a sheet has that has all of them.
-pub const LONGEST_SHEET: usize = 27_748;
+pub const LONGEST_SHEET: usize = 28_004;
 
 pub const SECONDS: RangeInclusive<i64> = 1..=900;
 pub const PRICES: RangeInclusive<i64> = 0..=400_000;
 /// Loads, losses and outputs.
 pub const LOADS: RangeInclusive<i64> = 0..=2_000_000;
-/// Imports and exports.
+/// Imports, exports and wheels.
 pub const SCHEDULES: RangeInclusive<i64> = 0..=200_000;
 /// Flows over PARs, actual and target.
 pub const PAR_FLOWS: RangeInclusive<i64> = -200_000..=200_000;

@@ -7,7 +7,7 @@ use crate::refusal::Refusal;
 use crate::settle::{Statement, settle};
 
 /// No listing is longer.
-pub const LONGEST_LISTING: usize = 288;
+pub const LONGEST_LISTING: usize = 292;
 
 /// Settles one interval and prints its listing at the front of the buffer: rows 1
 /// to 23. The statement, and the listing's length. On a refusal the buffer stays as

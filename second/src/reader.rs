@@ -122,12 +122,16 @@ impl<'a> Reader<'a> {
         };
         let import = power(fields.unsigned_4(), SCHEDULES)?;
         let export = power(fields.unsigned_4(), SCHEDULES)?;
+        let wheel_in = power(fields.unsigned_4(), SCHEDULES)?;
+        let wheel_out = power(fields.unsigned_4(), SCHEDULES)?;
         self.sheet.points.push(Point {
             name,
             class,
             place,
             import,
             export,
+            wheel_in,
+            wheel_out,
         });
         Ok(())
     }

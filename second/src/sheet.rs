@@ -70,6 +70,8 @@ pub struct Point {
     pub place: Place,
     pub import: Power,
     pub export: Power,
+    pub wheel_in: Power,
+    pub wheel_out: Power,
 }
 
 /// A phase angle regulator.

@@ -72,6 +72,8 @@ impl Rest<'_> {
         self.field([point.class, place]);
         self.field(point.import.to_be_bytes());
         self.field(point.export.to_be_bytes());
+        self.field(point.wheel_in.to_be_bytes());
+        self.field(point.wheel_out.to_be_bytes());
     }
 
     fn par(&mut self, par: &Par) {

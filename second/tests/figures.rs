@@ -60,6 +60,53 @@ fn sheet_s_prints_its_listing() {
     assert!(rest.iter().all(|byte| *byte == 0x5a));
 }
 
+/// Net schedules are 500 + 70 - 30 = 540 and 300 + 20 - 200 - 50 = 70: parallel flow
+/// 540 x 1000 x 10, shadow flow 70 x 400 x 10. On T1 parallel flow is 540 x 2000 x 10,
+/// so it carries a quarter of 11,250,000 + 10,800,000, less 500,000 of control. The
+/// difference is 3,267,500; at 5000 and 300 s that is 1,361,458 and a third.
+#[test]
+fn wheels_enter_the_net_schedule() {
+    let sheet = draft::sheet_s_with_wheels().concat();
+    let statement = settle(&sheet, &draft::list_s()).unwrap();
+    let expected = "flowgate 415c42
+gtl 12600000 0 0
+parallel 5400000
+shadow 280000
+common 5012500
+noncommon 0
+market 13267500
+entitlement 10000000
+price 5000
+amount 1361458
+NYISO -1361458
+PJM 1361458
+";
+    assert_eq!(String::from_utf8(listing(&statement)).unwrap(), expected);
+    let sheet = read(&sheet).unwrap();
+    let flow = exact::market_flow(&sheet);
+    assert_eq!(flow, Fraction::whole(13_267_500));
+    let amount = exact::amount(&sheet, &flow, Power(100));
+    assert_eq!(amount, Fraction::of(3 * 1_361_458 + 1, 3));
+}
+
+/// Far more than its loads and outputs is wheeled, and no row of the balance is met.
+#[test]
+fn wheels_leave_the_balance_alone() {
+    let small = Small {
+        zone_loads: vec![(10, 0)],
+        output: (10, 0),
+        points: vec![
+            (1, 0, [9, 9, 200_000, 199_999], 3),
+            (2, 1, [0, 0, 200_000, 200_000], 10_000),
+            (2, 1, [0, 0, 5, 200_000], 0),
+        ],
+    };
+    let statement = settled(&small, 0).unwrap();
+    assert_eq!(statement.flow.shadow, Watts(30));
+    assert_eq!(statement.flow.parallel, Watts::ZERO);
+    assert_eq!(statement.flow.market, Watts(30));
+}
+
 #[test]
 fn a_short_buffer_is_refused_unchanged() {
     let (sheet, list) = (draft::sheet_s().concat(), draft::list_s());
@@ -120,7 +167,7 @@ fn flow_of_minus_ten_is_exact_with_remainders() {
     let small = Small {
         zone_loads: vec![(1, 1), (3, 0)],
         output: (5, 0),
-        points: vec![(1, 0, 0, 1, 0)],
+        points: vec![(1, 0, [0, 1, 0, 0], 0)],
     };
     let statement = settled(&small, 0).unwrap();
     assert_eq!(gtl_of(&statement), gtl(-10, 2, 2));
@@ -148,7 +195,7 @@ fn at_the_entitlement_the_price_is_zero() {
     let small = Small {
         zone_loads: vec![(1000, 0)],
         output: (1, 0),
-        points: vec![(2, 0, 100, 0, 10_000)],
+        points: vec![(2, 0, [100, 0, 0, 0], 10_000)],
     };
     let at = |value| settled(&small, value).unwrap();
     assert_eq!(at(100).flow.market, Watts(10_000_000));
@@ -163,7 +210,7 @@ fn final_load_must_be_above_zero() {
     let with_import = |import| Small {
         zone_loads: vec![(10, 0)],
         output: (1, 0),
-        points: vec![(1, 0, import, 0, 0)],
+        points: vec![(1, 0, [import, 0, 0, 0], 0)],
     };
     assert!(settled(&with_import(9), 0).is_ok());
     assert_eq!(settled(&with_import(10), 0), Err(Refusal::NoFinalLoad));
@@ -174,7 +221,7 @@ fn final_generation_may_be_zero() {
     let with_export = |export| Small {
         zone_loads: vec![(3, 1)],
         output: (10, 7),
-        points: vec![(1, 0, 0, export, 0)],
+        points: vec![(1, 0, [0, export, 0, 0], 0)],
     };
     let statement = settled(&with_export(10), 0).unwrap();
     let flow = gtl_of(&statement);

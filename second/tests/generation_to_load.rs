@@ -13,6 +13,9 @@ use second::{listing, settle};
 
 const T1: Target = 1;
 
+const NO_WHEELS: [[u32; 2]; 4] = [[0; 2]; 4];
+const WHEELS: [[u32; 2]; 4] = [[700, 1], [0, 900], [1300, 20], [6, 1200]];
+
 fn by_zone(powers: &[i64]) -> [Power; MOST_ZONES] {
     let mut zones = [Power::ZERO; MOST_ZONES];
     for (zone, power) in zones.iter_mut().zip(powers) {
@@ -75,8 +78,10 @@ fn figures_of_sheet_s() {
 }
 
 /// Zones with losses, lines into two of them that import and export, proxies of both
-/// types that do so too: `tests/cases/flow/figures/each-figure-differs.case`.
-fn every_schedule() -> Vec<u8> {
+/// types that do so too: `tests/cases/flow/figures/each-figure-differs.case`, with these
+/// wheels at L1, L2, X1 and X2.
+fn every_schedule(wheels: [[u32; 2]; 4]) -> Vec<u8> {
+    let [[in_1, out_1], [in_2, out_2], [in_3, out_3], [in_4, out_4]] = wheels;
     let named = |text: &str| name(text.as_bytes());
     let mut records = vec![
         head(named("F"), 2, 300, [5000, 2000]),
@@ -87,11 +92,11 @@ fn every_schedule() -> Vec<u8> {
         unit(named("U2"), 3, 250),
         unit(named("U3"), 2, 331),
         unit(named("U4"), 1, 100),
-        point(named("L1"), 2, 1, 61, 40),
-        point(named("L2"), 1, 3, 20, 30),
-        point(named("L3"), 2, 1, 9, 5),
-        point(named("X1"), 1, 0, 70, 110),
-        point(named("X2"), 2, 0, 13, 7),
+        point(named("L1"), 2, 1, [61, 40, in_1, out_1]),
+        point(named("L2"), 1, 3, [20, 30, in_2, out_2]),
+        point(named("L3"), 2, 1, [9, 5, 0, 0]),
+        point(named("X1"), 1, 0, [70, 110, in_3, out_3]),
+        point(named("X2"), 2, 0, [13, 7, in_4, out_4]),
         par(named("T1"), 1, 40, 52),
     ];
     let on_flowgate = [
@@ -108,8 +113,14 @@ fn every_schedule() -> Vec<u8> {
 
 #[test]
 fn figures_that_all_differ() {
-    let bytes = every_schedule();
-    let sheet = read(&bytes).unwrap();
+    for wheels in [NO_WHEELS, WHEELS, [[200_000; 2]; 4]] {
+        figures_differ(&every_schedule(wheels));
+    }
+}
+
+/// Wheels enter none of them.
+fn figures_differ(bytes: &[u8]) {
+    let sheet = read(bytes).unwrap();
     // 723 - 61 - 9, 427 and 313 - 20; proxies import 70 + 13.
     assert_loads(&sheet, &[653, 427, 293], [1463, 1373, 1290]);
     // 600 + 100 - 40 - 5, 331 and 250 - 30; proxies export 110 + 7.
@@ -135,7 +146,7 @@ fn figures_that_all_differ() {
 #[test]
 fn the_statement_takes_these_figures() {
     let list = draft::entitlement(name(b"F"), 0);
-    let statement = settle(&every_schedule(), &list).unwrap();
+    let statement = settle(&every_schedule(NO_WHEELS), &list).unwrap();
     let expected = "flowgate 46
 gtl -1709781 632 522
 parallel 15600
@@ -182,8 +193,8 @@ fn any_sheet(chance: &mut Chance) -> Vec<u8> {
     }
     for k in 0..points {
         let (class, place) = (1 + chance.upto(1) as u8, chance.upto(zones) as u8);
-        let (import, export) = (chance.power(most / 9), chance.power(most / 9));
-        records.push(point(named(k), class, place, import, export));
+        let schedules = [most / 9, most / 9, most, most].map(|most| chance.power(most));
+        records.push(point(named(k), class, place, schedules));
     }
     for k in 0..pars {
         records.push(par(named(k), 1, 0, 0));

@@ -108,9 +108,8 @@ fn names_codes_and_numbers_are_checked_in_that_order() {
     assert_refused(8, S_UNIT, unit(name(b"U1"), 0, 2_000_001));
     assert_refused(8, S_UNIT, unit(name(b"U1"), 3, 0));
     assert_refused(9, S_UNIT, unit(name(b"U1"), 2, 2_000_001));
-    assert_refused(8, S_POINT, point(name(b"P1"), 2, 3, 0, 0));
-    assert_refused(8, S_POINT, point(name(b"P1"), 0, 0, 0, 0));
-    assert_refused(9, S_POINT, point(name(b"P1"), 1, 0, 0, 200_001));
+    assert_refused(8, S_POINT, point(name(b"P1"), 2, 3, [0; 4]));
+    assert_refused(8, S_POINT, point(name(b"P1"), 0, 0, [0; 4]));
     assert_refused(8, S_PAR, par(name(b"T1"), 3, 200_001, 0));
     assert_refused(9, S_PAR, par(name(b"T1"), 2, -200_001, 0));
     assert_refused(9, S_PAR, par(name(b"T1"), 2, 0, i32::MIN));
@@ -121,6 +120,36 @@ fn names_codes_and_numbers_are_checked_in_that_order() {
     let mut records = draft::sheet_s();
     records[S_HEAD] = head(name(b"\"\\\xff\n"), 1, 900, [400_000, 0]);
     assert_eq!(refusal(&records), None);
+}
+
+#[test]
+fn each_schedule_has_its_range() {
+    let with = |schedules| point(name(b"P1"), 2, 2, schedules);
+    for k in 0..4 {
+        let mut schedules = [0; 4];
+        for beyond in [200_001, 0x8000_0000, u32::MAX] {
+            schedules[k] = beyond;
+            assert_refused(9, S_POINT, with(schedules));
+            assert_refused(8, S_POINT, point(name(b"P1"), 2, 3, schedules));
+        }
+        schedules[k] = 200_000;
+        let mut records = draft::sheet_s();
+        records[S_POINT] = with(schedules);
+        assert_eq!(refusal(&records), None);
+    }
+}
+
+/// The kind of the next record stands where wheel in begins.
+#[test]
+fn points_without_wheels_are_refused() {
+    let mut records = draft::sheet_s();
+    for point in &mut records[S_POINT..S_PAR] {
+        point.truncate(1 + 26);
+    }
+    let place = place_of(&records, S_POINT);
+    assert_eq!(refusal(&records), Some((9, place)));
+    // With nothing behind it the point is cut short.
+    assert_eq!(refusal(&records[..=S_POINT]), Some((3, place)));
 }
 
 #[test]

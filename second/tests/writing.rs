@@ -5,7 +5,7 @@ use second::draft::{self, name};
 use second::due::Due;
 use second::names::NameField;
 use second::sheet::{Place, ZoneNumber};
-use second::units::Amount;
+use second::units::{Amount, Watts};
 use second::{settle, write};
 
 fn content_s() -> Content {
@@ -27,7 +27,12 @@ fn sized(zones: usize, units: usize, points: usize, pars: usize) -> Content {
     let (proxy, par) = (content.points[1], content.pars[0]);
     let zone = |name| Zone { name, ..zone };
     let unit = |name| Unit { name, ..unit };
-    let point = |name| Point { name, ..proxy };
+    let point = |name| Point {
+        name,
+        wheel_in: 7,
+        wheel_out: 200_000,
+        ..proxy
+    };
     let par = |name| Par { name, ..par };
     content.zones = (0..zones).map(|k| zone(named('Z', k))).collect();
     content.units = (0..units).map(|k| unit(named('U', k))).collect();
@@ -98,11 +103,11 @@ fn sheet_s_is_written_again() {
 #[test]
 fn the_longest_sheet_is_written_again() {
     let longest = sized(32, 256, 32, 8);
-    assert_eq!((longest.factors.len(), longest.length()), (2888, 27_748));
-    let (answer, out) = written(&longest, 27_748);
-    assert_eq!(answer, Ok(27_748));
+    assert_eq!((longest.factors.len(), longest.length()), (2888, 28_004));
+    let (answer, out) = written(&longest, 28_004);
+    assert_eq!(answer, Ok(28_004));
     assert_eq!(content(&out).unwrap(), longest);
-    assert_eq!(written(&longest, 27_747).0, Err(27));
+    assert_eq!(written(&longest, 28_003).0, Err(27));
 }
 
 #[test]
@@ -119,12 +124,26 @@ fn a_schedule_is_altered_and_settled_again() {
     content.points[0].import = 600;
     let (_, sheet) = written(&content, content.length());
     let mut records = draft::sheet_s();
-    records[5] = draft::point(name(b"P1"), 2, 2, 600, 0);
+    records[5] = draft::point(name(b"P1"), 2, 2, [600, 0, 0, 0]);
     assert_eq!(sheet, records.concat());
     let before = settle(&draft::sheet_s().concat(), &draft::list_s()).unwrap();
     let after = settle(&sheet, &draft::list_s()).unwrap();
     assert_eq!(before.payment.amount, Amount(1_328_125));
     assert_ne!(after.payment.amount, before.payment.amount);
+}
+
+/// P1 wheels in 5: 5 x 1000 x 10 W more are parallel flow, and T1 carries a quarter of
+/// the 5 x 2000 x 10 W more on it.
+#[test]
+fn a_wheel_is_added_and_settled_again() {
+    let mut content = content_s();
+    content.points[0].wheel_in = 5;
+    let (_, sheet) = written(&content, content.length());
+    let mut records = draft::sheet_s();
+    records[5] = draft::point(name(b"P1"), 2, 2, [500, 0, 5, 0]);
+    assert_eq!(sheet, records.concat());
+    let after = settle(&sheet, &draft::list_s()).unwrap();
+    assert_eq!(after.flow.market, Watts(13_187_500 + 25_000));
 }
 
 #[test]
@@ -199,11 +218,17 @@ fn numbers_are_checked() {
     altered(9, |it| it.units[1].output = 2_000_001);
     altered(9, |it| it.points[0].import = 200_001);
     altered(9, |it| it.points[1].export = 200_001);
+    altered(9, |it| it.points[0].wheel_in = 200_001);
+    altered(9, |it| it.points[0].wheel_in = 0x8000_0000);
+    altered(9, |it| it.points[1].wheel_out = 200_001);
+    altered(9, |it| it.points[1].wheel_out = u32::MAX);
     altered(9, |it| it.pars[0].actual = -200_001);
     altered(9, |it| it.pars[0].target = i32::MIN);
     passes(|it| it.head.seconds = 900);
     passes(|it| (it.zones[0].load, it.zones[0].losses) = (2_000_000, 0));
     passes(|it| (it.points[0].import, it.points[0].export) = (0, 200_000));
+    passes(|it| (it.points[1].wheel_in, it.points[1].wheel_out) = (200_000, 0));
+    passes(|it| (it.points[0].wheel_in, it.points[0].wheel_out) = (0, 200_000));
     passes(|it| (it.pars[0].actual, it.pars[0].target) = (-200_000, 200_000));
 }
 

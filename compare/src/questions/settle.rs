@@ -3,10 +3,11 @@
 mod cases;
 mod check;
 mod directed;
+pub(super) mod earlier;
 mod expected;
 pub(super) mod faults;
 pub(super) mod inputs;
-mod landmarks;
+pub(super) mod landmarks;
 mod one_record;
 mod program;
 

@@ -14,6 +14,7 @@ use second::draft;
 
 use crate::interval::{Scale, Sizes, drawn};
 use crate::mismatch::{Mismatch, Shown, Trouble};
+use crate::questions::settle::earlier;
 use crate::questions::{Outcome, Question};
 use crate::sides::drafts::{Draft, Drafts};
 use crate::sides::{Second, Sides};
@@ -160,8 +161,8 @@ impl Write {
     }
 }
 
-/// Sheet S, the smallest sheet, and a longest one.
-fn bases(seed: u64) -> [Draft; 3] {
+/// Sheet S, the same with wheels, the smallest sheet, and a longest one.
+fn bases(seed: u64) -> [Draft; 4] {
     let chance = &mut inputs::chance(seed, u64::MAX);
     let smallest = Sizes {
         zones: 1,
@@ -171,11 +172,13 @@ fn bases(seed: u64) -> [Draft; 3] {
     };
     let mut of_size = |sizes| Draft::of(&drawn(chance, sizes, Scale::FULL));
     let (smallest, longest) = (of_size(smallest), of_size(Sizes::LONGEST));
-    [sheet_s(), smallest, longest]
-}
-
-fn sheet_s() -> Draft {
-    Second.read_draft(&draft::sheet_s().concat()).draft
+    let read = |records: Vec<Vec<u8>>| Second.read_draft(&records.concat()).draft;
+    [
+        read(draft::sheet_s()),
+        read(draft::sheet_s_with_wheels()),
+        smallest,
+        longest,
+    ]
 }
 
 impl Question for Write {
@@ -184,16 +187,22 @@ impl Question for Write {
     }
 
     fn directed(&mut self, sides: &Sides, seed: u64) -> Outcome {
-        for base in &bases(seed) {
+        let bases = bases(seed);
+        for base in &bases {
             let sheet = Input::sheet("a sheet to be altered", base.sheet());
             self.expect(sides, &sheet, 0)?;
+            if base.point_count > 0 {
+                let sheet = earlier::with_points_of(earlier::BODY, &base.sheet());
+                let earlier = Input::sheet("points of the earlier form", sheet);
+                self.expect(sides, &earlier, 9)?;
+            }
             self.every_field(sides, base)?;
             let made = counts::of(base).chain(order::factors(base));
             for (what, draft, row) in made.chain(order::into_zone_0(base)) {
                 self.expect_draft(sides, &what, &draft, row)?;
             }
         }
-        self.every_pair(sides, &sheet_s())?;
+        self.every_pair(sides, &bases[0])?;
         for (what, draft, row) in counts::surplus(&mut inputs::chance(seed, u64::MAX - 1)) {
             self.expect_draft(sides, &what, &draft, row)?;
         }
@@ -211,9 +220,10 @@ impl Question for Write {
     }
 
     fn sweeps(&mut self, sides: &Sides, seed: u64) -> Outcome {
-        let [sheet_s, smallest, longest] = &bases(seed);
-        self.every_buffer(sides, sheet_s, 1)?;
-        self.every_buffer(sides, smallest, 1)?;
+        let [sheet_s, with_wheels, smallest, longest] = &bases(seed);
+        for draft in [sheet_s, with_wheels, smallest] {
+            self.every_buffer(sides, draft, 1)?;
+        }
         self.every_buffer(sides, longest, 499)?;
         for sheet in damage::every_one(&draft::sheet_s().concat()) {
             self.ask(sides, &Input::sheet("sheet S damaged", sheet))?;

@@ -50,6 +50,8 @@ pub struct Point {
     pub zone: u8,
     pub import: u32,
     pub export: u32,
+    pub wheel_in: u32,
+    pub wheel_out: u32,
 }
 
 #[derive(Clone, Copy, Debug, PartialEq, Eq)]

@@ -6,8 +6,8 @@ use second::draft::{factor, head, name, point, unit, zone};
 pub struct Small {
     pub zone_loads: Vec<(u32, i16)>,
     pub output: (u32, i16),
-    /// Type, place, import, export and factor.
-    pub points: Vec<(u8, u8, u32, u32, i16)>,
+    /// Type, place, schedules and factor.
+    pub points: Vec<(u8, u8, [u32; 4], i16)>,
 }
 
 impl Small {
@@ -17,16 +17,16 @@ impl Small {
             sheet.extend(zone(name(&[b'Z', 1 + k as u8]), *load, 0));
         }
         sheet.extend(unit(name(b"U"), 1, self.output.0));
-        for (k, (class, place, import, export, _)) in self.points.iter().enumerate() {
+        for (k, (class, place, schedules, _)) in self.points.iter().enumerate() {
             let named = name(&[b'P', 1 + k as u8]);
-            sheet.extend(point(named, *class, *place, *import, *export));
+            sheet.extend(point(named, *class, *place, *schedules));
         }
         sheet.extend(factor(0, 1, 1, self.output.1));
         for (k, (_, value)) in (1..).zip(&self.zone_loads) {
             sheet.extend(factor(0, 2, k, *value));
         }
         for (k, point) in (1..).zip(&self.points) {
-            sheet.extend(factor(0, 3, k, point.4));
+            sheet.extend(factor(0, 3, k, point.3));
         }
         sheet
     }

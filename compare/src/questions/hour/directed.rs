@@ -215,6 +215,7 @@ fn with_flow(chance: &mut Chance, import: u32, factor: i16, price: u32) -> Inter
     interval.zones[0].load = import + 1;
     let point = &mut interval.points[0];
     (point.place, point.import, point.export) = (0, import, 0);
+    (point.wheel_in, point.wheel_out) = (0, 0);
     interval.flowgate.clear();
     interval.flowgate.points[0] = factor;
     interval

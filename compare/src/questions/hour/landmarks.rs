@@ -2,6 +2,7 @@
 
 use second::exact;
 use second::fraction::Fraction;
+use second::generation_to_load::Balance;
 use second::hour::{LARGEST_AMOUNT, MOST_INTERVALS, MOST_SECONDS};
 use second::reader::read;
 use second::sheet::Rto;
@@ -10,16 +11,18 @@ use second::units::Power;
 use crate::questions::hour::check::{Step, taken};
 use crate::questions::hour::{Input, LAST_OWN};
 use crate::questions::settle;
+use crate::questions::settle::landmarks::wheels;
 use crate::sides::Second;
 use crate::sides::hours::{Hour, Hours};
 use crate::tally::Tally;
 
-const TAKEN: [&str; 5] = [
+const TAKEN: [&str; 6] = [
     "the 60th interval",
     "exactly 3600 s",
     "60 intervals of exactly 3600 s",
     "an interval over a cell that is not zero",
     "an interval in an hour of none that bears another name",
+    "an interval whose market flow would be another without wheels",
 ];
 
 const REFUSED: [&str; 8] = [
@@ -117,6 +120,7 @@ fn accepted(step: &Step) -> [bool; TAKEN.len()] {
         before, changed, ..
     } = step;
     let at = before.count;
+    let sheet = read(&step.interval.sheet).expect("an accepted sheet is read");
     let whole = i64::from(Second.totals(&changed.hour).seconds) == MOST_SECONDS.0;
     let last = changed.hour.count == MOST_INTERVALS;
     let named = ![[0; 16], changed.hour.name].contains(&before.name);
@@ -126,6 +130,7 @@ fn accepted(step: &Step) -> [bool; TAKEN.len()] {
         last && whole,
         (before.amounts[at], before.seconds[at]) != (0, 0),
         at == 0 && named,
+        wheels::show(&sheet, &Balance::of(&sheet)),
     ]
 }
 

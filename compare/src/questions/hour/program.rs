@@ -3,10 +3,12 @@
 use second::draft;
 use second::hour::printed_hour;
 
+use crate::chance::Chance;
 use crate::mismatch::{Mismatch, Trouble};
 use crate::program::{Program, Supply};
 use crate::questions::hour::Input;
 use crate::questions::settle;
+use crate::questions::settle::inputs::point_behind_the_longest;
 use crate::sides::hours::Hour;
 
 const LIST_FILE: &str = "list.bin";
@@ -83,7 +85,7 @@ fn check_no_words(program: &Program) -> Result<(), Mismatch> {
 /// Hours with a file longer than any sheet or list.
 pub fn long_files() -> Vec<Input> {
     let mut hours = Vec::new();
-    for length in [27_748, 27_776, 65_536, 200_000] {
+    for length in [28_004, 28_039, 65_536, 200_000] {
         for filling in [0, 1, 6, 0x10] {
             let mut sheets = vec![sheet_s(); 3];
             sheets[1].sheet.resize(length, filling);
@@ -92,6 +94,10 @@ pub fn long_files() -> Vec<Input> {
             sheets[0].list.resize(length, filling);
             hours.push(Input::grown("a long list file", sheets));
         }
+    }
+    for length in [34, 35] {
+        let behind = point_behind_the_longest(&mut Chance::of(1, length), length as usize);
+        hours.push(Input::grown("a long sheet file", vec![behind, sheet_s()]));
     }
     hours
 }

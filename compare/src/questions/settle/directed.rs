@@ -3,6 +3,7 @@
 mod greatest;
 mod parts;
 mod rounding;
+mod wheels;
 
 use second::draft;
 use second::layout::{Kind, LOADS, MOST_ENTITLEMENTS, MOST_UNITS, MOST_ZONES};
@@ -32,6 +33,7 @@ pub fn all(seed: u64) -> Vec<Directed> {
     all.extend(rounding::all(chance));
     all.extend(buckets(chance));
     all.extend(parts::all(chance));
+    all.extend(wheels::all(chance));
     all
 }
 

@@ -148,16 +148,19 @@ fn bad_number(chance: &mut Chance, interval: &mut Interval) {
     let beyond = beyond_par_flows(chance);
     let zone = chance.below(interval.zones.len());
     let unit = chance.below(interval.units.len());
-    match chance.below(10) {
+    let points = interval.points.len();
+    match chance.below(12) {
         0 => interval.head.seconds = chance.pick(&[0, 901, u16::MAX]),
         1 => interval.head.prices[0] = above(chance, &PRICES),
         2 => interval.head.prices[1] = above(chance, &PRICES),
         3 => interval.zones[zone].load = above(chance, &LOADS),
         4 => interval.zones[zone].losses = above(chance, &LOADS),
-        5 if !interval.points.is_empty() => interval.points[0].import = above(chance, &SCHEDULES),
-        6 if !interval.points.is_empty() => interval.points[0].export = above(chance, &SCHEDULES),
-        7 if !interval.pars.is_empty() => interval.pars[0].actual = beyond,
-        8 if !interval.pars.is_empty() => interval.pars[0].target = beyond,
+        number @ 5..=8 if points > 0 => {
+            let point = &mut interval.points[chance.below(points)];
+            *point.schedules_mut()[number - 5] = above(chance, &SCHEDULES);
+        }
+        9 if !interval.pars.is_empty() => interval.pars[0].actual = beyond,
+        10 if !interval.pars.is_empty() => interval.pars[0].target = beyond,
         _ => interval.units[unit].output = above(chance, &LOADS),
     }
 }
@@ -321,7 +324,7 @@ fn surplus(chance: &mut Chance, records: &mut Vec<Vec<u8>>) {
         match kind {
             2 => draft::zone(name, 0, 0),
             3 => draft::unit(name, 1, 0),
-            4 => draft::point(name, 1, 0, 0, 0),
+            4 => draft::point(name, 1, 0, [0; 4]),
             _ => draft::par(name, 1, 0, 0),
         }
     });

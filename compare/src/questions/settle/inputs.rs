@@ -2,16 +2,17 @@
 
 use second::flow::market_flow;
 use second::generation_to_load::Balance;
-use second::layout::{ENTITLEMENTS, FACTORS, LOADS, MOST_ENTITLEMENTS, MOST_PARS, NAME, PAR_FLOWS};
+use second::layout::{
+    ENTITLEMENTS, FACTORS, Kind, LOADS, MOST_ENTITLEMENTS, MOST_PARS, NAME, PAR_FLOWS,
+};
 use second::names::NameField;
 use second::payment::LARGEST_FLOW;
 use second::units::Power;
 use second::{draft, reader};
 
 use crate::chance::Chance;
-use crate::interval::{Interval, Scale, Sizes, drawn, names, signed_value};
-use crate::questions::settle::faults;
-use crate::questions::settle::{Input, Room};
+use crate::interval::{Interval, Record, Scale, Sizes, drawn, names, signed_value};
+use crate::questions::settle::{Input, Room, earlier, faults};
 
 /// The k-th input of a seed.
 pub fn input(seed: u64, k: u64) -> Input {
@@ -25,7 +26,8 @@ pub fn input(seed: u64, k: u64) -> Input {
         58..=59 => next_to_zero(chance),
         60..=66 => faults::alone(chance),
         67..=76 => faults::pair(chance),
-        77..=82 => flipped(chance),
+        77..=81 => flipped(chance),
+        82 => of_earlier_form(chance),
         83..=87 => rearranged(chance),
         88..=91 => truncated(chance),
         92..=94 => trailing(chance),
@@ -254,6 +256,16 @@ fn flipped(chance: &mut Chance) -> Input {
     input
 }
 
+/// Points that end behind export, or within their wheels.
+fn of_earlier_form(chance: &mut Chance) -> Input {
+    let interval = sound(chance);
+    let mut input = with_list(chance, "points of the earlier form", &interval);
+    let body = chance.within(earlier::BODY as i64..=Kind::Point.body() as i64);
+    let body = chance.pick(&[earlier::BODY, body as usize]);
+    input.sheet = earlier::with_points_of(body, &input.sheet);
+    input
+}
+
 /// Records swapped, doubled, dropped or moved.
 fn rearranged(chance: &mut Chance) -> Input {
     let interval = sound(chance);
@@ -309,18 +321,29 @@ fn oversized(chance: &mut Chance) -> Input {
     let count = chance.pick(&[1, MOST_ENTITLEMENTS]);
     let mut list = list_with(chance, interval.head.name, 0, count).concat();
     let mut sheet = interval.records().concat();
-    let more = chance.pick(&[1, 6, 7, 27, 28, 29, 5_000, 60_000]);
+    let more = chance.pick(&[1, 6, 7, 27, 28, 29, 34, 35, 36, 5_000, 60_000]);
     let bytes = if chance.one_in(2) {
         &mut list
     } else {
         &mut sheet
     };
     let again = bytes[bytes.len() - 7..].to_vec();
-    let behind = chance.pick(&[0, 1, 6, 16]);
+    let behind = chance.pick(&[0, 1, 4, 6, 16]);
     for k in 0..more {
         bytes.push(if behind == 6 { again[k % 7] } else { behind });
     }
     Input::of("longer than the longest", sheet, list)
+}
+
+/// The longest sheet, and so many bytes of a point behind it, the longest record that can
+/// stand there.
+pub fn point_behind_the_longest(chance: &mut Chance, length: usize) -> Input {
+    let longest = drawn(chance, Sizes::LONGEST, Scale::TINY);
+    let mut sheet = longest.records().concat();
+    let point = Record::Point(longest.points[0].clone()).bytes();
+    sheet.extend_from_slice(&point[..length]);
+    let origin = format!("{length} bytes of a point behind the longest sheet");
+    Input::of(&origin, sheet, draft::entitlement(longest.head.name, 0))
 }
 
 fn noise(chance: &mut Chance) -> Input {

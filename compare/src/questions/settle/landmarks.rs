@@ -1,13 +1,14 @@
 //! Situations that a comparison must not miss.
 
 mod parts;
+pub mod wheels;
 
 use second::exact;
 use second::flow::{carried, market_flow};
 use second::fraction::Fraction;
 use second::generation_to_load::Balance;
 use second::layout::{
-    Fields, Kind, LOADS, MOST_ENTITLEMENTS, MOST_PARS, MOST_POINTS, MOST_UNITS, MOST_ZONES, NAME,
+    Fields, Kind, LOADS, LONGEST_SHEET, MOST_ENTITLEMENTS, MOST_UNITS, MOST_ZONES, NAME,
 };
 use second::names::NameField;
 use second::payment::LARGEST_FLOW;
@@ -56,10 +57,10 @@ const ACCEPTED: [&str; 29] = [
     "non-common PARs, PJM monitors",
     "eight non-common PARs, NYISO monitors",
     "eight non-common PARs, PJM monitors",
-    "PARs of each class carry more than 2 x 10^16",
+    "PARs of each class carry more than 5.7 x 10^16",
     "a unit in zone 32 of 32",
     "a line into zone 32 of 32",
-    "the longest sheet",
+    "the longest sheet, of 28,004 bytes",
     "the longest listing",
     "256 units in one bucket",
     "2,500 entries in one bucket",
@@ -69,7 +70,7 @@ const ACCEPTED: [&str; 29] = [
     "a PAR's own flow, G, net and final generation differ",
 ];
 
-const OF_ACCEPTED: usize = QUOTIENTS.len() * HALVES.len() + ACCEPTED.len();
+const OF_ACCEPTED: usize = QUOTIENTS.len() * HALVES.len() + ACCEPTED.len() + wheels::ACCEPTED.len();
 
 const REFUSED: [&str; 24] = [
     "row 7 by the last of 256 units in one bucket",
@@ -85,7 +86,7 @@ const REFUSED: [&str; 24] = [
     "row 21 by one tenth",
     "row 22 by 9 W or less above",
     "row 22 by 9 W or less below",
-    "row 22, PARs carry more than 4.7 x 10^16",
+    "row 22, PARs carry more than 1.15 x 10^17",
     "row 16 by loads, net load of 2,000,000 or less",
     "row 16 by outputs, net generation of 2,000,000 or less",
     "row 17 where 19 is met too",
@@ -103,7 +104,9 @@ pub fn names() -> Vec<String> {
     let halved = QUOTIENTS
         .iter()
         .flat_map(|quotient| HALVES.map(|half| format!("{quotient}: {half}")));
-    let others = ACCEPTED.iter().chain(&REFUSED);
+    let accepted = ACCEPTED.iter().chain(&wheels::ACCEPTED);
+    let refused = REFUSED.iter().chain(&wheels::BEYOND);
+    let others = accepted.chain(refused).chain(&wheels::REFUSED);
     halved.chain(others.map(|name| name.to_string())).collect()
 }
 
@@ -115,7 +118,11 @@ pub fn shown(input: &Input, answer: &Answer) -> Vec<usize> {
     };
     match answer {
         Ok(statement) => shown(0, &accepted(input, statement)),
-        Err(refusal) => shown(OF_ACCEPTED, &refused(input, *refusal)),
+        Err(refusal) => {
+            let rows = refused(input, *refusal);
+            let (beyond, cut) = (wheels::beyond(&input.sheet), wheels::refused(&input.sheet));
+            shown(OF_ACCEPTED, &[&rows[..], &beyond, &cut].concat())
+        }
     }
 }
 
@@ -151,6 +158,7 @@ fn accepted(input: &Input, statement: &Statement) -> Vec<bool> {
     shown.extend(pars(sheet, balance));
     shown.extend(sizes(input, sheet, statement));
     shown.extend(parts::accepted(sheet, balance));
+    shown.extend(wheels::accepted(sheet, balance, &statement.flow));
     assert_eq!(shown.len(), OF_ACCEPTED);
     shown
 }
@@ -211,7 +219,7 @@ fn pars(sheet: &Sheet, balance: &Balance) -> [bool; 5] {
         noncommon > 0 && pjm,
         noncommon == 8 && !pjm,
         noncommon == 8 && pjm,
-        carry(Class::Common).min(carry(Class::NonCommon)) > 20_000_000_000_000_000,
+        carry(Class::Common).min(carry(Class::NonCommon)) > 57_000_000_000_000_000,
     ]
 }
 
@@ -229,7 +237,7 @@ fn sizes(input: &Input, sheet: &Sheet, statement: &Statement) -> [bool; 7] {
             Place::Line(zone) => last(zone.index()),
             Place::Proxy => false,
         }),
-        sheet.counts() == [MOST_UNITS, MOST_ZONES, MOST_POINTS, MOST_PARS],
+        input.sheet.len() == LONGEST_SHEET,
         listing(statement).len() == LONGEST_REACHED,
         full_bucket(units.iter(), MOST_UNITS),
         full_bucket(entry_names(&input.list).iter(), MOST_ENTITLEMENTS),
@@ -359,6 +367,6 @@ fn beyond(sheet: &Sheet, balance: &Balance) -> [bool; 3] {
     [
         (1..10).contains(&(market - LARGEST_FLOW.0)),
         (1..10).contains(&(-market - LARGEST_FLOW.0)),
-        carried > 47_000_000_000_000_000,
+        carried > 115_000_000_000_000_000,
     ]
 }

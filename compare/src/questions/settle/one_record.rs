@@ -242,8 +242,7 @@ impl Faulty {
             Record::Zone(it) if first => it.load = above(chance, &LOADS),
             Record::Zone(it) => it.losses = above(chance, &LOADS),
             Record::Unit(it) => it.output = above(chance, &LOADS),
-            Record::Point(it) if first => it.import = above(chance, &SCHEDULES),
-            Record::Point(it) => it.export = above(chance, &SCHEDULES),
+            Record::Point(it) => *it.schedules_mut()[number % 4] = above(chance, &SCHEDULES),
             Record::Par(it) if first => it.actual = beyond_par_flows(chance),
             Record::Par(it) => it.target = beyond_par_flows(chance),
             Record::Factor(_) => {}
@@ -285,6 +284,8 @@ fn extra(kind: Kind, interval: &Interval) -> Record {
             place: 0,
             import: 0,
             export: 0,
+            wheel_in: 0,
+            wheel_out: 1,
         }),
         Kind::Par | Kind::Factor => Record::Par(Par {
             name,

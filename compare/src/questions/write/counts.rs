@@ -163,6 +163,8 @@ fn fill_last(draft: &mut Draft) {
         zone: 0,
         import: 0,
         export: 1,
+        wheel_in: 2,
+        wheel_out: 0,
     };
     draft.pars[8] = Par {
         name,

@@ -2,7 +2,7 @@
 
 use second::names::NameField;
 
-use crate::sides::drafts::Draft;
+use crate::sides::drafts::{Draft, Point};
 
 type Alter = Box<dyn Fn(&mut Draft)>;
 
@@ -52,6 +52,16 @@ const PAR_FLOWS: [(i32, u8); 8] = [
     (-200_001, 9),
     (i32::MAX, 9),
     (i32::MIN, 9),
+];
+
+/// A number of a point.
+type Schedule = fn(&mut Point) -> &mut u32;
+
+const SCHEDULES: [(&str, Schedule); 4] = [
+    ("import", |it| &mut it.import),
+    ("export", |it| &mut it.export),
+    ("wheel in", |it| &mut it.wheel_in),
+    ("wheel out", |it| &mut it.wheel_out),
 ];
 
 /// From 0 to the largest, and beyond.
@@ -182,13 +192,12 @@ impl Table {
         self.field("place", &places, move |it, (line, zone)| {
             (it.points[k].line, it.points[k].zone) = (line, zone);
         });
-        let schedules = up_to(200_000);
-        self.field("import", &schedules, move |it, value| {
-            it.points[k].import = value
-        });
-        self.field("export", &schedules, move |it, value| {
-            it.points[k].export = value
-        });
+        let values = up_to(200_000);
+        for (schedule, of) in SCHEDULES {
+            self.field(schedule, &values, move |it, value| {
+                *of(&mut it.points[k]) = value
+            });
+        }
     }
 
     fn par(&mut self, k: usize) {

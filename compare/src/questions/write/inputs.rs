@@ -117,6 +117,8 @@ fn fill_behind(chance: &mut Chance, draft: &mut Draft) {
         (point.line, point.zone) = (chance.below(3) as u8, chance.below(3) as u8);
         point.import = chance.draw() as u32 % 200_001;
         point.export = chance.draw() as u32 % 200_001;
+        point.wheel_in = chance.draw() as u32 % 200_001;
+        point.wheel_out = chance.draw() as u32 % 200_001;
     }
     for par in &mut draft.pars[draft.par_count..] {
         (par.name, par.class) = (name(chance), 1 + chance.below(2) as u8);

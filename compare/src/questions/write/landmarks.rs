@@ -2,6 +2,7 @@
 
 use second::layout::{LONGEST_SHEET, SCHEDULES};
 
+use crate::questions::settle::landmarks::wheels;
 use crate::sides::drafts::{Draft, Point};
 use crate::tally::Tally;
 
@@ -10,7 +11,7 @@ const ROWS: [u8; 11] = [0, 5, 6, 7, 8, 9, 10, 11, 12, 13, 27];
 /// The last row that a sheet can meet.
 const LAST_OF_SHEET: u8 = 13;
 
-const ACCEPTED: [&str; 10] = [
+const ACCEPTED: [&str; 14] = [
     "a buffer exactly long enough",
     "a buffer one byte longer",
     "the longest sheet",
@@ -21,20 +22,27 @@ const ACCEPTED: [&str; 10] = [
     "a proxy that tells a zone",
     "the last of 32 zones as a line's end",
     "a cell behind the counts that is not zero",
+    "a point with wheel in alone",
+    "a point with wheel out alone",
+    "wheel in of 200,000",
+    "wheel out of 200,000",
 ];
 
-const TOO_SHORT: [&str; 3] = [
+const TOO_SHORT: [&str; 5] = [
     "row 27 by one byte",
     "row 27 of an empty buffer",
     "row 27 of the longest sheet",
+    "row 27 of the longest sheet by one byte",
+    "row 27 by one byte, wheels on every point",
 ];
 
-const INTO_ZONE_0: [&str; 5] = [
+const INTO_ZONE_0: [&str; 6] = [
     "a line into zone 0 on the first point",
     "a line into zone 0 on a later point",
     "a line into zone 0 on the 32nd point",
     "a line into zone 0 that is told by another number than 1",
     "a line into zone 0 with a schedule out of range",
+    "a line into zone 0 with a wheel alone out of range",
 ];
 
 const COUNTS: [&str; 13] = [
@@ -53,6 +61,9 @@ const COUNTS: [&str; 13] = [
     "row 13 without any factor",
 ];
 
+/// The largest schedule.
+const MOST: u32 = *SCHEDULES.end() as u32;
+
 /// The tally's groups.
 const READ: usize = 0;
 const WRITTEN: usize = 1;
@@ -66,7 +77,10 @@ pub fn tally() -> Tally {
         row => format!("refused {row}"),
     };
     let landmarks = ACCEPTED.iter().chain(&TOO_SHORT);
-    let landmarks = landmarks.chain(&INTO_ZONE_0).chain(&COUNTS);
+    let landmarks = landmarks
+        .chain(&INTO_ZONE_0)
+        .chain(&wheels::BEYOND)
+        .chain(&COUNTS);
     let short = ROWS[1..]
         .iter()
         .map(|row| format!("row {row} in a short buffer"));
@@ -122,12 +136,17 @@ pub fn mark_draft(tally: &mut Tally, draft: &Draft, room: usize, refusal: u8) {
     if room < draft.length() {
         tally.mark(SHORT, answer - 1);
     }
-    let before = ACCEPTED.len();
+    let into_zone = ACCEPTED.len() + TOO_SHORT.len();
+    let beyond = into_zone + INTO_ZONE_0.len();
     match refusal {
-        27 => shown(tally, before, &too_short(draft, room)),
-        8 => shown(tally, before + TOO_SHORT.len(), &into_zone_0(draft)),
+        27 => shown(tally, ACCEPTED.len(), &too_short(draft, room)),
+        8 => {
+            shown(tally, into_zone, &into_zone_0(draft));
+            shown(tally, beyond, &wheels::beyond(&draft.sheet()));
+        }
+        9 => shown(tally, beyond, &wheels::beyond(&draft.sheet())),
         _ => {
-            let before = before + TOO_SHORT.len() + INTO_ZONE_0.len();
+            let before = beyond + wheels::BEYOND.len();
             shown(tally, before, &counts(draft, refusal));
         }
     }
@@ -145,6 +164,10 @@ fn longest(draft: &Draft) -> bool {
 fn accepted(draft: &Draft, room: usize) -> [bool; ACCEPTED.len()] {
     let length = draft.length();
     let point = |holds: fn(u8, u8) -> bool| draft.points().iter().any(|it| holds(it.line, it.zone));
+    let wheels = |holds: fn(u32, u32) -> bool| {
+        let mut points = draft.points().iter();
+        points.any(|it| holds(it.wheel_in, it.wheel_out))
+    };
     let behind = &draft.factors[draft.factor_count..];
     [
         room == length,
@@ -157,11 +180,24 @@ fn accepted(draft: &Draft, room: usize) -> [bool; ACCEPTED.len()] {
         point(|line, zone| line == 0 && zone != 0),
         point(|line, zone| line != 0 && zone == 32),
         behind.iter().any(|it| it.index != 0),
+        wheels(|wheel_in, wheel_out| wheel_in > 0 && wheel_out == 0),
+        wheels(|wheel_in, wheel_out| wheel_in == 0 && wheel_out > 0),
+        wheels(|wheel_in, _| wheel_in == MOST),
+        wheels(|_, wheel_out| wheel_out == MOST),
     ]
 }
 
 fn too_short(draft: &Draft, room: usize) -> [bool; TOO_SHORT.len()] {
-    [room + 1 == draft.length(), room == 0, longest(draft)]
+    let by_one = room + 1 == draft.length();
+    let points = draft.points();
+    let mut wheels = points.iter().map(|it| it.wheel_in.min(it.wheel_out));
+    [
+        by_one,
+        room == 0,
+        longest(draft),
+        by_one && longest(draft),
+        by_one && !points.is_empty() && wheels.all(|wheel| wheel > 0),
+    ]
 }
 
 fn into_zone_0(draft: &Draft) -> [bool; INTO_ZONE_0.len()] {
@@ -180,7 +216,8 @@ fn into_zone_0(draft: &Draft) -> [bool; INTO_ZONE_0.len()] {
         (1..31).any(at),
         at(31),
         any(|it| it.line > 1),
-        any(|it| it.import.max(it.export) > *SCHEDULES.end() as u32),
+        any(|it| it.import.max(it.export) > MOST),
+        any(|it| it.import.max(it.export) <= MOST && it.wheel_in.max(it.wheel_out) > MOST),
     ]
 }
 

@@ -107,6 +107,8 @@ pub fn into_zone_0(base: &Draft) -> impl Iterator<Item = Made> {
         with(8, &|_| {});
         with(8, &|it| it.points[k].import = 200_001);
         with(8, &|it| it.points[k].export = u32::MAX);
+        with(8, &|it| it.points[k].wheel_in = 200_001);
+        with(8, &|it| it.points[k].wheel_out = u32::MAX);
         with(8, &|it| it.points[k].sort = 3);
         with(6, &|it| it.points[k].name = [0; 16]);
         with(9, &|it| it.units[0].output = 2_000_001);
@@ -115,6 +117,7 @@ pub fn into_zone_0(base: &Draft) -> impl Iterator<Item = Made> {
         if k > 0 {
             with(7, &|it| it.points[k].name = it.points[0].name);
             with(9, &|it| it.points[k - 1].import = 200_001);
+            with(9, &|it| it.points[k - 1].wheel_out = 200_001);
         }
     }
     all.into_iter()

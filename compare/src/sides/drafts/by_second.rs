@@ -99,6 +99,8 @@ macro_rules! content_of_draft {
                     },
                     import: point.import,
                     export: point.export,
+                    wheel_in: point.wheel_in,
+                    wheel_out: point.wheel_out,
                 }
             }
 
@@ -157,6 +159,7 @@ macro_rules! draft_of_content {
                 for (to, it) in draft.points.iter_mut().zip(&content.points) {
                     (to.name, to.sort) = (it.name, it.class);
                     (to.import, to.export) = (it.import, it.export);
+                    (to.wheel_in, to.wheel_out) = (it.wheel_in, it.wheel_out);
                     if let $second::sheet::Place::Line(zone) = it.place {
                         (to.line, to.zone) = (1, zone.0);
                     }

@@ -49,6 +49,8 @@ impl Point {
         zone: 0,
         import: 0,
         export: 0,
+        wheel_in: 0,
+        wheel_out: 0,
     };
 }
 

@@ -117,6 +117,8 @@ impl Point {
             zone: point.place,
             import: point.import,
             export: point.export,
+            wheel_in: point.wheel_in,
+            wheel_out: point.wheel_out,
         }
     }
 
@@ -131,6 +133,8 @@ impl Point {
             },
             import: self.import,
             export: self.export,
+            wheel_in: self.wheel_in,
+            wheel_out: self.wheel_out,
         }
     }
 }

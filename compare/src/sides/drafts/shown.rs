@@ -82,8 +82,9 @@ fn point(point: &Point) -> String {
         sort, line, zone, ..
     } = point;
     let (import, export) = (point.import, point.export);
-    let name = name(&point.name);
-    format!("{name} type {sort} line {line} zone {zone} import {import} export {export}")
+    let (wheel_in, wheel_out) = (point.wheel_in, point.wheel_out);
+    let place = format!("{} type {sort} line {line} zone {zone}", name(&point.name));
+    format!("{place} import {import} export {export} wheel in {wheel_in} out {wheel_out}")
 }
 
 fn par(par: &Par) -> String {

@@ -1,19 +1,23 @@
-//! Figures as large as they can be: the longest listing, and what PARs carry.
+//! Figures as large as they can be: the longest listing, flows of points, and what PARs
+//! carry.
 
-use second::layout::{ENTITLEMENTS, FACTORS, LOADS, MOST_PARS, PAR_FLOWS, SCHEDULES};
+use second::layout::{ENTITLEMENTS, FACTORS, LOADS, MOST_PARS, MOST_POINTS, PAR_FLOWS, SCHEDULES};
 use second::payment::LARGEST_FLOW;
 
 use crate::chance::Chance;
-use crate::interval::{Interval, Scale, Sizes, drawn};
+use crate::interval::{Interval, Point, Scale, Sizes, drawn};
 use crate::questions::settle::Expected;
 use crate::questions::settle::check::listing_length;
 use crate::questions::settle::directed::{Directed, with_entitlement};
 use crate::questions::settle::inputs::market;
 
-/// The longest listing that can be reached. Three bytes are missing to the sum of all
-/// lines at their longest: a second remainder of seven digits has the other sign than
-/// the flow, the redirects can't both be below -10^12 with a market flow in range, and
-/// an amount of 13 digits has market flow and entitlement on both sides of zero.
+/// The longest listing that can be reached. Seven bytes are missing to the sum of all
+/// lines at their longest, 292. One: a first remainder of seven digits needs a G below
+/// 2,000,000, a second one a net generation of 2,000,000. Two: loads and outputs bound
+/// imports and exports, so that parallel and shadow flow have at most 1.04 x 10^12 W
+/// together, which is 12 digits each or 13 and 11. Three: with a market flow in range
+/// neither redirect has 14 digits, nor are both below -10^12. One: an amount of 13 digits
+/// has market flow and entitlement on both sides of zero.
 pub const LONGEST_REACHED: usize = 285;
 
 pub fn all(chance: &mut Chance) -> Vec<Directed> {
@@ -25,6 +29,12 @@ pub fn all(chance: &mut Chance) -> Vec<Directed> {
         let opposed = in_range(carrying(chance, sign, -sign), 0);
         let input = with_entitlement("what PARs carry, each class", &opposed, 0);
         all.push((input, vec![Expected::Refusal(0)]));
+        for (class, line) in [(1, "shadow"), (2, "parallel")] {
+            let interval = in_range(of_all_points(chance, class, sign), 0);
+            let input = with_entitlement("all that points can schedule", &interval, 0);
+            let line = format!("{line} {}", i64::from(sign) * 1_039_999_800_000);
+            all.push((input, vec![Expected::Refusal(0), Expected::Line(line)]));
+        }
     }
     all
 }
@@ -47,12 +57,16 @@ fn full(chance: &mut Chance, points: usize) -> Interval {
     }
     interval.units[0].output = most;
     interval.units[1].output = 0;
+    interval.units[0].zone = 1;
     for (k, par) in interval.pars.iter_mut().enumerate() {
         par.class = if k < MOST_PARS / 2 { 1 } else { 2 };
         (par.actual, par.target) = (0, 0);
     }
     for point in &mut interval.points {
-        (point.place, point.import, point.export) = (0, 0, 0);
+        point.place = 0;
+        for schedule in point.schedules_mut() {
+            *schedule = 0;
+        }
     }
     interval.flowgate.clear();
     for factors in &mut interval.on_pars {
@@ -61,20 +75,54 @@ fn full(chance: &mut Chance, points: usize) -> Interval {
     interval
 }
 
+/// As much as points can schedule: ten proxies import, ten lines export, and all wheel
+/// the same way, together 10,399,998. What lines export lowers net and final generation
+/// alike.
+fn all_schedules(chance: &mut Chance, class: u8) -> Interval {
+    let mut interval = full(chance, MOST_POINTS);
+    let most = *SCHEDULES.end() as u32;
+    for (k, point) in interval.points.iter_mut().enumerate() {
+        point.class = class;
+        match k {
+            0..10 => (point.import, point.wheel_in) = (most, most),
+            10..20 => (point.place, point.export, point.wheel_out) = (1, most, most),
+            _ => point.wheel_in = most,
+        }
+    }
+    // Final load and net generation must be above zero.
+    interval.points[0].import -= 1;
+    interval.points[10].export -= 1;
+    interval
+}
+
+/// Whole factors that all make a flow of one sign.
+fn aligned(points: &[Point], sign: i16) -> Vec<i16> {
+    let whole = sign * *FACTORS.end() as i16;
+    let factor = |point: &Point| if point.export > 0 { -whole } else { whole };
+    points.iter().map(factor).collect()
+}
+
+/// A flow of points that are all of a type; eight PARs carry 1.3 x 10^11 W each, which
+/// is as much together.
+fn of_all_points(chance: &mut Chance, class: u8, sign: i16) -> Interval {
+    let mut interval = all_schedules(chance, class);
+    interval.flowgate.points = aligned(&interval.points, sign);
+    interval.flowgate.pars.fill(sign * *FACTORS.end() as i16);
+    for factors in &mut interval.on_pars {
+        factors.units.fill(3_250);
+        factors.zones.fill(-3_250);
+    }
+    interval
+}
+
 /// Eight PARs that carry as much as they can, the classes in these directions.
 fn carrying(chance: &mut Chance, common: i16, noncommon: i16) -> Interval {
-    let mut interval = full(chance, 10);
+    let mut interval = all_schedules(chance, 2);
     let whole = *FACTORS.end() as i16;
-    let most = *SCHEDULES.end() as u32;
-    for point in &mut interval.points {
-        (point.class, point.import) = (2, most);
-    }
-    // Final load must be above zero.
-    interval.points[0].import -= 1;
     for factors in &mut interval.on_pars {
         factors.units.fill(whole);
         factors.zones.fill(-whole);
-        factors.points.fill(whole);
+        factors.points = aligned(&interval.points, 1);
     }
     for (par, factor) in interval.pars.iter().zip(&mut interval.flowgate.pars) {
         *factor = whole * if par.class == 1 { common } else { noncommon };
@@ -111,7 +159,7 @@ fn longest_listing(chance: &mut Chance) -> Directed {
     (longest, vec![Expected::Refusal(0), market])
 }
 
-/// Net load 2,000,000 and G x N so that the first quotient is a tie; five imports that
+/// Net load 2,000,000 and G x N so that the first quotient is a tie; five wheels in that
 /// are parallel flow and five exports that are shadow flow, each -10^11 W; seven PARs
 /// with whole factors and one with a factor of one ten-thousandth.
 fn long_figures(chance: &mut Chance) -> Interval {
@@ -125,10 +173,10 @@ fn long_figures(chance: &mut Chance) -> Interval {
     interval.units[0].output -= other + 1;
     interval.units[1].output = other;
     for (k, point) in interval.points.iter_mut().enumerate() {
-        let import = k % 2 == 0;
-        point.class = if import { 2 } else { 1 };
-        (point.import, point.export) = if import { (most, 0) } else { (0, most) };
-        interval.flowgate.points[k] = if import { -whole } else { whole };
+        let wheel = k % 2 == 0;
+        point.class = if wheel { 2 } else { 1 };
+        (point.wheel_in, point.export) = if wheel { (most, 0) } else { (0, most) };
+        interval.flowgate.points[k] = if wheel { -whole } else { whole };
     }
     let zone = chance.within(9_000..=9_900) as i16 / 2 * 2;
     interval.flowgate.zones = vec![zone, zone + 1];

@@ -27,7 +27,7 @@ pub fn all(chance: &mut Chance) -> Vec<Directed> {
 }
 
 /// Every zone has losses, a unit and a line; lines and two proxies import and export.
-fn all_differ(chance: &mut Chance) -> Interval {
+pub fn all_differ(chance: &mut Chance) -> Interval {
     let zones = 2 + chance.below(4);
     let sizes = Sizes {
         zones,
