@@ -99,7 +99,7 @@ def without_contract(trace):
 
 def landmarks_missing(trace):
     """The landmarks that no list of them in the comparison has."""
-    lists = (ROOT / "compare" / "src").glob("**/landmarks.rs")
+    lists = [path for path in (ROOT / "compare" / "src").glob("**/*.rs") if "landmarks" in path.with_suffix("").parts]
     told = "".join("".join(re.findall(r"const \w+: \[&str; \d+\] = \[(.*?)\];", text_of(p), re.S)) for p in lists)
     for named in re.findall(r'landmarks? ((?:"[^"]+"(?:, )?)+)', trace):
         yield from (name for name in re.findall(r'"([^"]+)"', named) if f'"{name}"' not in told)
