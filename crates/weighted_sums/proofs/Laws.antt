@@ -13,7 +13,7 @@ use Rattle.integers.proofs.Linear.{zarith}
 use Rattle.integers.proofs.Tactic.{zi, zo}
 use Rattle.integers.proofs.Absolute.{abs-sub}
 use Rattle.integers.proofs.Sums.{sum-same}
-use Rattle.integers.proofs.Machine.{Op, rd, num-is, mul}
+use Rattle.integers.proofs.Machine.{Num, Op, rd, num-is, mul}
 use Rattle.due_factors.specs.Due.{Asked, howMany}
 use Rattle.layout.specs.declared.Layout.{Layout}
 use Rattle.records.specs.declared.Point.{Point}
@@ -62,6 +62,17 @@ scheduled-within f = le-trans (net-within f) (lit≤ tt)
 tenfold-within : (of class : ℕ) (x : ℤ) → natAbs x ≤ 400000 → natAbs (tenfoldIn of class x) ≤ 4000000
 unfolding tenfoldIn
 tenfold-within of class x h = cond-within (eqb of class) (x *ℤ pos 10) (times-within x (pos 10) h (le-refl 10))
+
+-- z is a record's power, x the same as a call returned it
+module _ {x z : ℤ} (e : x ≡ z) (h : natAbs z ≤ 400000) where
+  as-read : Num (rd x) z 400000
+  as-read = num-is x z 400000 e h (lit< tt)
+
+  pub small : natAbs (rd x) ≤ 400000
+  small = rw (as-read .is) (as-read .abs)
+
+  pub tenfold-is : (of class : ℕ) → tenfoldIn of class (rd x) ≡ tenfoldIn of class z
+  tenfold-is of class = rw (as-read .is)
 
 power-within : {c : Content} → Valid c → (subject class i : ℕ) → (subject ≡ 2 → ⊥) → i < members c subject → natAbs (powerOf c subject class i) ≤ 4000000
 unfolding members howMany powerOf
