@@ -1,36 +1,40 @@
 -- `net_schedule` meets its contract: of any point, since numbers of 32 bits are summed in 64.
-use Prim.Native.Nat.{ℕ, _≤_}
+use Prim.Native.Nat.{ℕ, _<_, _^_}
+use native.Mathlib.Omega.{arith}
 use borrow.Author.Needs.{needs}
 use lib.Dec.{lit<}
-use lib.IntN.{ℤ, pos, _+ℤ_, _-ℤ_}
-use mir.Val.{toZ}
+use lib.IntN.{pos, _+ℤ_, _-ℤ_}
+use mir.Val.{SFits, toZ}
 use mir.Syntax.{w64}
 use Rattle.integers.proofs.Machine.{Num, Op, rd, num-u, add, sub}
-use Rattle.records.specs.declared.Point.{Point}
 use Rattle.figures.specs.Flow.{netSchedule}
 use Rattle.weighted_sums.proofs.net_schedule.Statement.{statement}
 use Rattle.weighted_sums.proofs.net_schedule.Tie as tie
 
--- a schedule as it is read
-schedule : (n : ℕ) → n ≤ 4294967295 → Num (toZ w64 n) (pos n) 4294967295
-schedule n h = num-u n 4294967295 h (lit< tt)
+-- a number as it is read
+read : (n : ℕ) → n < 2 ^ 32 → Num (toZ w64 n) (pos n) 4294967295
+read n h = num-u n 4294967295 (omega arith) (lit< tt)
 
-abbrev entering : Point → ℤ
-entering p = toZ w64 (p .import) +ℤ toZ w64 (p .«wheel_in»)
+-- the sum and the differences of any four, one by one
+one : (a b : ℕ) → a < 2 ^ 32 → b < 2 ^ 32 → Op (toZ w64 a +ℤ toZ w64 b) (pos a +ℤ pos b) 8589934590
+one a b h k = add (read a h) (read b k) (lit< tt)
 
-abbrev less-export : Point → ℤ
-less-export p = rd (entering p) -ℤ toZ w64 (p .export)
+two : (a b d : ℕ) → a < 2 ^ 32 → b < 2 ^ 32 → d < 2 ^ 32 → Op (rd (toZ w64 a +ℤ toZ w64 b) -ℤ toZ w64 d) (pos a +ℤ pos b -ℤ pos d) 12884901885
+two a b d h k l = sub (one a b h k .num) (read d l) (lit< tt)
 
--- the sum and the differences, one by one
-one : (c : tie.After-struct-known2) → let p = c .before .before .args .p in Op (entering p) (pos (p .import) +ℤ pos (p .«wheel_in»)) 8589934590
-one c = let p = c .before .before .args .p in add (schedule (p .import) (search needs)) (schedule (p .«wheel_in») (search needs)) (lit< tt)
+three : (a b d f : ℕ) → a < 2 ^ 32 → b < 2 ^ 32 → d < 2 ^ 32 → f < 2 ^ 32 →
+    Op (rd (rd (toZ w64 a +ℤ toZ w64 b) -ℤ toZ w64 d) -ℤ toZ w64 f) (pos a +ℤ pos b -ℤ pos d -ℤ pos f) 17179869180
+three a b d f h k l m = sub (two a b d h k l .num) (read f m) (lit< tt)
 
-two : (c : tie.After-struct-known3) → let p = c .before .before .before .args .p in Op (less-export p) (pos (p .import) +ℤ pos (p .«wheel_in») -ℤ pos (p .export)) 12884901885
-two c = sub (one (c .before) .num) (schedule (c .before .before .before .args .p .export) (search needs)) (lit< tt)
+-- each fits, whichever the four are
+one-fits : (a b : ℕ) → a < 2 ^ 32 → b < 2 ^ 32 → SFits w64 (toZ w64 a +ℤ toZ w64 b)
+one-fits a b h k = one a b h k .fits
 
-three : (c : tie.After-struct-known4) → let p = c .before .before .before .before .args .p in Op (rd (less-export p) -ℤ toZ w64 (p .«wheel_out»)) (netSchedule p) 17179869180
-unfolding netSchedule
-three c = sub (two (c .before) .num) (schedule (c .before .before .before .before .args .p .«wheel_out») (search needs)) (lit< tt)
+two-fits : (a b d : ℕ) → a < 2 ^ 32 → b < 2 ^ 32 → d < 2 ^ 32 → SFits w64 (rd (toZ w64 a +ℤ toZ w64 b) -ℤ toZ w64 d)
+two-fits a b d h k l = two a b d h k l .fits
+
+three-fits : (a b d f : ℕ) → a < 2 ^ 32 → b < 2 ^ 32 → d < 2 ^ 32 → f < 2 ^ 32 → SFits w64 (rd (rd (toZ w64 a +ℤ toZ w64 b) -ℤ toZ w64 d) -ℤ toZ w64 f)
+three-fits a b d f h k l m = three a b d f h k l m .fits
 
 cast-result : tie.Need-cast-result
 cast-result c = search needs
@@ -39,22 +43,25 @@ cast-result-2 : tie.Need-cast-result-2
 cast-result-2 c = search needs
 
 add-result : tie.Need-add-result
-add-result c = one c .fits
+add-result c = search (needs, one-fits)
 
 cast-result-3 : tie.Need-cast-result-3
 cast-result-3 c = search needs
 
 sub-result : tie.Need-sub-result
-sub-result c = two c .fits
+sub-result c = search (needs, two-fits)
 
 cast-result-4 : tie.Need-cast-result-4
 cast-result-4 c = search needs
 
 sub-result-2 : tie.Need-sub-result-2
-sub-result-2 c = three c .fits
+sub-result-2 c = search (needs, three-fits)
 
 returns : tie.Need-returns
-returns c = three c .num .is
+unfolding netSchedule
+returns c =
+    let p = c .before .before .before .before .args .p in
+    three (p .import) (p .«wheel_in») (p .export) (p .«wheel_out») (search needs) (search needs) (search needs) (search needs) .num .is
 
 pub net-schedule-spec : {M : Type 1} → statement M
 net-schedule-spec =
