@@ -11,6 +11,8 @@ use Rattle.records.specs.declared.Place.the-variants.{Proxy, Line}
 use Rattle.records.specs.declared.Point.{Point}
 use Rattle.records.specs.declared.Par.{Par}
 use Rattle.records.specs.declared.Factor.{Factor}
+use Rattle.records.specs.declared.Path.{Path}
+use Rattle.records.specs.declared.Circulation.{Circulation}
 use Rattle.records.specs.Codes.{nyiso, pjm, common, noncommon}
 
 -- row 8: RTO not listed; type or class not listed
@@ -45,6 +47,15 @@ pointOutside p = ltb 200000 (p .import) || (ltb 200000 (p .export) || (ltb 20000
 abbrev pub parOutside : Par → Bool
 parOutside p = beyond 200000 (p .actual) || beyond 200000 (p .target)
 
+abbrev pub pathOutside : Path → Bool
+pathOutside p = beyond 200000 (p .flow)
+
+abbrev pub circulationOutside : Circulation → Bool
+circulationOutside c = beyond 200000 (c .flow)
+
 -- row 11: factor outside ±10,000
 abbrev pub factorOutside : Factor → Bool
 factorOutside f = beyond 10000 (f .factor)
+
+abbrev pub pathFactorOutside : Path → Bool
+pathFactorOutside p = beyond 10000 (p .factor)

@@ -1,9 +1,11 @@
 // Rows 8, 9 and 11 of an interval sheet: a record's codes and number fields, each by itself.
 ghost use mathlib.Core.Path.{_≡_};
 ghost use Rattle.rows.specs.Rows.{outside, beyond};
-ghost use Rattle.field_rows.specs.FieldRows.{noRto, noType, noZoneOf, placeUnknown, headOutside, zoneOutside, unitOutside, pointOutside, parOutside};
+ghost use Rattle.field_rows.specs.FieldRows.{noRto, noType, noZoneOf, placeUnknown, headOutside, zoneOutside, unitOutside, pointOutside, parOutside, pathOutside, circulationOutside, pathFactorOutside};
+use records::Circulation;
 use records::Head;
 use records::Par;
+use records::Path;
 use records::Place;
 use records::Point;
 use records::Unit;
@@ -16,7 +18,7 @@ const MOST_PRICE: u32 = 400_000;
 // Of a load, losses or an output, in tenths of a MW.
 const MOST_POWER: u32 = 2_000_000;
 
-// Of a schedule or a PAR's flow.
+// Of a schedule, or the flow of a PAR, a path or the circulation.
 const MOST_FLOW: u32 = 200_000;
 
 const MOST_FACTOR: u32 = 10_000;
@@ -104,4 +106,22 @@ pub fn par_outside(p: Par) -> bool
     ensures { λ r. ⌜ r ≡ parOutside p ⌝ }
 {
     power_beyond(p.actual) | power_beyond(p.target)
+}
+
+pub fn path_outside(p: Path) -> bool
+    ensures { λ r. ⌜ r ≡ pathOutside p ⌝ }
+{
+    power_beyond(p.flow)
+}
+
+pub fn circulation_outside(c: Circulation) -> bool
+    ensures { λ r. ⌜ r ≡ circulationOutside c ⌝ }
+{
+    power_beyond(c.flow)
+}
+
+pub fn path_factor_outside(p: Path) -> bool
+    ensures { λ r. ⌜ r ≡ pathFactorOutside p ⌝ }
+{
+    factor_beyond(p.factor)
 }

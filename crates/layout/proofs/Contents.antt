@@ -11,8 +11,8 @@ use borrow.Author.Tests.{eqb-true, eqb-false}
 use Rattle.fields.specs.Lists.{tab}
 use Rattle.fields.proofs.Lists.{length-tab}
 use Rattle.integers.proofs.Cases.{below-or}
-use Rattle.record_table.specs.Table.{bodyIn}
-use Rattle.records.specs.Bodies.{headOf, zoneOf, unitOf, pointOf, parOf, factorOf}
+use Rattle.record_table.specs.Table.{bodyIn, lastKind}
+use Rattle.records.specs.Bodies.{headOf, zoneOf, unitOf, pointOf, parOf, factorOf, pathOf, circulationOf}
 use Rattle.records.specs.Content.{countOf, onlyIf, noContent, withRecord}
 use Rattle.due_factors.specs.Due.{countsOf}
 use Rattle.layout.specs.declared.Layout.{Layout}
@@ -31,6 +31,8 @@ layout-at s l =
       length-tab (λ i. pointOf (bodyAt s l 4 i)) (l .points),
       length-tab (λ i. parOf (bodyAt s l 5 i)) (l .pars),
       length-tab (λ i. factorOf (bodyAt s l 6 i)) (l .factors),
+      length-tab (λ i. pathOf (bodyAt s l 7 i)) (l .paths),
+      length-tab (λ i. circulationOf (bodyAt s l 8 i)) (l .circulations),
     )
 
 -- so its counts are the layout's
@@ -62,12 +64,12 @@ tab-next : {A : Type 0} (f : ℕ → A) (n : ℕ) → tab f (n + 1) ≡ tab f n 
 unfolding tab
 tab-next f n = rw add-one
 
-module _ (s : List ℕ) (l : Layout) (last at kind : ℕ) (v : Laid l last at) (low : 1 ≤ kind) (high : kind ≤ 6) (order : last ≤ kind) where
+module _ (s : List ℕ) (l : Layout) (last at kind : ℕ) (v : Laid l last at) (low : 1 ≤ kind) (high : kind ≤ lastKind) (order : last ≤ kind) where
   abbrev body : List ℕ
   body = bodyIn kind (drop (at + 1) s)
 
   module _ {A : Type 0} (f : List ℕ → A) where
-    list-by : (j : ℕ) → j ≤ 6 → (b : Bool) → eqb kind j ≡ b → listOf f s (counted l kind) j ≡ listOf f s l j ++ onlyIf b (f body)
+    list-by : (j : ℕ) → j ≤ lastKind → (b : Bool) → eqb kind j ≡ b → listOf f s (counted l kind) j ≡ listOf f s l j ++ onlyIf b (f body)
     list-by j h true e =
         let q : kind ≡ j = eqb-true _ _ e in
         let a : startOf l kind (count l kind) ≡ at = sym (laid-at l last at kind v low high order) in
@@ -82,7 +84,7 @@ module _ (s : List ℕ) (l : Layout) (last at kind : ℕ) (v : Laid l last at) (
         rw (o, z, tab-zero (λ i. f (bodyAt s (counted l kind) j i)), tab-zero (λ i. f (bodyAt s l j i))))
         (λ b. rw (o, first-agree l (counted l kind) j (λ i p. count-other l kind i (omega arith) (λ x. omega arith)), append-nil (listOf f s l j)))
 
-    list-next : (j : ℕ) → j ≤ 6 → listOf f s (counted l kind) j ≡ listOf f s l j ++ onlyIf (eqb kind j) (f body)
+    list-next : (j : ℕ) → j ≤ lastKind → listOf f s (counted l kind) j ≡ listOf f s l j ++ onlyIf (eqb kind j) (f body)
     list-next j h = list-by j h (eqb kind j) refl
 
   pub content-next : contentAt s (counted l kind) ≡ withRecord (contentAt s l) kind body
@@ -94,4 +96,6 @@ module _ (s : List ℕ) (l : Layout) (last at kind : ℕ) (v : Laid l last at) (
       let points = list-next pointOf 4 (omega arith) in
       let pars = list-next parOf 5 (omega arith) in
       let factors = list-next factorOf 6 (omega arith) in
-      rw (heads, zones, units, points, pars, factors)
+      let paths = list-next pathOf 7 (omega arith) in
+      let circulations = list-next circulationOf 8 (omega arith) in
+      rw (heads, zones, units, points, pars, factors, paths, circulations)

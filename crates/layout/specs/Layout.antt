@@ -11,4 +11,6 @@ layoutOf c = record {
   points = length (c .points);
   pars = length (c .pars);
   factors = length (c .factors);
+  paths = length (c .paths);
+  circulations = length (c .circulations);
 }

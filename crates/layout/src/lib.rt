@@ -1,8 +1,9 @@
 // Where the records of a sheet stand. The sheet stays as it is: a layout says how many records there are of each kind.
 ghost use mathlib.Core.Path.{_≡_};
+ghost use mathlib.Core.Bool.{true};
 ghost use Prim.Native.Nat.{_+_, _*_, _≤_, _<_, _^_};
 ghost use lib.ListN.{length, drop};
-ghost use Rattle.record_table.specs.Table.{lastKind, bodyLength, bodyIn};
+ghost use Rattle.record_table.specs.Table.{lastKind, kindOf, bodyLength, bodyIn};
 ghost use Rattle.record_rows.specs.Rows.{repeats};
 ghost use Rattle.record_table.specs.inner.Sizes.{size, mostSize};
 ghost use Rattle.layout.specs.inner.Places.{countsIn, one, count, counted, firstOf, startOf, extent, bodyAt, contentAt, Allowed};
@@ -18,7 +19,8 @@ const MOST_NAMED: usize = record_table::MOST_HEADS
     + record_table::MOST_ZONES
     + record_table::MOST_UNITS
     + record_table::MOST_POINTS
-    + record_table::MOST_PARS;
+    + record_table::MOST_PARS
+    + record_table::MOST_PATHS;
 
 // Of the table of the index: a place for each hash, for each name that is allowed, and for one too many.
 pub const TABLE_SIZE: usize = MASK + 1 + MOST_NAMED + 1;
@@ -30,6 +32,8 @@ pub struct Layout {
     pub points: usize,
     pub pars: usize,
     pub factors: usize,
+    pub paths: usize,
+    pub circulations: usize,
 }
 
 pub fn count_of(l: Layout, kind: u8) -> usize
@@ -42,6 +46,8 @@ pub fn count_of(l: Layout, kind: u8) -> usize
         4 => l.points,
         5 => l.pars,
         6 => l.factors,
+        7 => l.paths,
+        8 => l.circulations,
         _ => 0,
     }
 }
@@ -69,7 +75,7 @@ fn one_if(met: bool) -> usize
     if met { 1 } else { 0 }
 }
 
-// One record of a kind more. Most are factors.
+// One record of a kind more. Most are factors, and of the others units.
 pub fn counted(l: Layout, kind: u8) -> Layout
     requires { ⌜ extent l < 2 ^ 64 ⌝ }
     ensures { λ r. ⌜ r ≡ counted l kind ⌝ }
@@ -82,15 +88,31 @@ pub fn counted(l: Layout, kind: u8) -> Layout
             points: l.points,
             pars: l.pars,
             factors: l.factors + 1,
+            paths: l.paths,
+            circulations: l.circulations,
+        };
+    }
+    if kind == 3 {
+        return Layout {
+            heads: l.heads,
+            zones: l.zones,
+            units: l.units + 1,
+            points: l.points,
+            pars: l.pars,
+            factors: l.factors,
+            paths: l.paths,
+            circulations: l.circulations,
         };
     }
     Layout {
         heads: l.heads + one_if(kind == 1),
         zones: l.zones + one_if(kind == 2),
-        units: l.units + one_if(kind == 3),
+        units: l.units,
         points: l.points + one_if(kind == 4),
         pars: l.pars + one_if(kind == 5),
         factors: l.factors,
+        paths: l.paths + one_if(kind == 7),
+        circulations: l.circulations + one_if(kind == 8),
     }
 }
 
@@ -121,12 +143,12 @@ fn named_of(l: Layout) -> usize
     requires { ⌜ Allowed l ⌝ }
     ensures { λ r. ⌜ (r ≡ named l) × (r ≤ mostNamed) ⌝ }
 {
-    l.heads + l.zones + l.units + l.points + l.pars
+    l.heads + l.zones + l.units + l.points + l.pars + l.paths
 }
 
 // Whether the record at `at`, behind the others of its kind, has the name of one of them. The table, which holds their names, then holds its name too.
 pub fn repeated(s: &[u8], l: Layout, kind: u8, at: usize, table: &mut [u16]) -> bool
-    requires { ⌜ (1 ≤ kind) × (kind ≤ 5) × (at ≡ startOf l kind (count l kind)) × (at + size kind ≤ length (now s)) × Allowed l × Listed (now s) l kind (now table) ⌝ }
+    requires { ⌜ (1 ≤ kind) × (kind ≤ lastKind) × (kindOf kind .named ≡ true) × (at ≡ startOf l kind (count l kind)) × (at + size kind ≤ length (now s)) × Allowed l × Listed (now s) l kind (now table) ⌝ }
     ensures { λ r. ⌜ (r ≡ repeats (contentAt (now (s .entry)) l) kind (bodyIn kind (drop (at + 1) (now (s .entry))))) × Listed (now (s .entry)) (counted l kind) kind (now (table .exit)) × (now (table .exit) ≡ withNext (now (s .entry)) (runOf l kind) (now (table .entry))) ⌝ }
 {
     let count = count_of(l, kind);

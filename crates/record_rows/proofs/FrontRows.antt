@@ -50,7 +50,7 @@ module _ (last kind earlier left below : ℕ) where
       pick false false false true = refl
       pick false false false false = refl
 
--- of rows 2 to 5 only row 3 fits a factor
+-- of rows 2 to 5 only row 3 fits a factor that no later kind stands before
 pub front-factor : (last earlier left below : ℕ) → last ≤ 6 → frontRow last 6 earlier left below ≡ row 3 (cutShort (bodyLength 6) left) below
 unfolding frontRow
 front-factor last earlier left below h = rw (le-ltb 6 last h)

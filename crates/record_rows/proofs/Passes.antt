@@ -21,10 +21,12 @@ use Rattle.records.specs.declared.Place.the-variants.{Proxy, Line}
 use Rattle.records.specs.declared.Point.{Point}
 use Rattle.records.specs.declared.Par.{Par}
 use Rattle.records.specs.declared.Factor.{Factor}
+use Rattle.records.specs.declared.Path.{Path}
+use Rattle.records.specs.declared.Circulation.{Circulation}
 use Rattle.records.specs.Content.{bears}
-use Rattle.field_rows.specs.FieldRows.{noRto, noType, noZoneOf, placeUnknown, headOutside, zoneOutside, unitOutside, pointOutside, parOutside, factorOutside}
-use Rattle.record_rows.specs.inner.Valid.{HeadFits, ZoneFits, UnitFits, LineFits, PointFits, ParFits}
-use Rattle.record_rows.specs.Rows.{notDue, headRow, zoneRow, unitRow, pointRow, parRow, factorRow}
+use Rattle.field_rows.specs.FieldRows.{noRto, noType, noZoneOf, placeUnknown, headOutside, zoneOutside, unitOutside, pointOutside, parOutside, factorOutside, pathOutside, circulationOutside, pathFactorOutside}
+use Rattle.record_rows.specs.inner.Valid.{HeadFits, ZoneFits, UnitFits, LineFits, PointFits, ParFits, PathFits, CirculationFits}
+use Rattle.record_rows.specs.Rows.{notDue, headRow, zoneRow, unitRow, pointRow, parRow, factorRow, pathRow, circulationRow}
 
 -- one of two codes
 listed : (x a b low high : ℕ) → not (eqb x a || eqb x b) ≡ false → low ≤ a → a ≤ high → low ≤ b → b ≤ high → (low ≤ x) × (x ≤ high)
@@ -124,6 +126,19 @@ par-pass r p e =
     let k = listed (p .class) 1 2 1 2 (a .0) (omega arith) (omega arith) (omega arith) (omega arith) in
     let x = neither (beyond 200000 (p .actual)) (beyond 200000 (p .target)) (b .0) in
     record { class-least = k .0; class-most = k .1; actual = ltb-false _ _ (x .0); target = ltb-false _ _ (x .1) })
+
+pub path-pass : (repeated : Bool) (p : Path) → pathRow repeated p ≡ 0 → Passes (p .name) repeated (PathFits p)
+unfolding pathRow
+path-pass r p e =
+    named (p .name) r _ e
+    (λ e.
+    let a = row-pass 8 (pathOutside p) _ e in
+    let b = row-pass 10 (pathFactorOutside p) 0 (a .1) in
+    record { flow = ltb-false _ _ (a .0); factor = ltb-false _ _ (b .0) })
+
+pub circulation-pass : (c : Circulation) → circulationRow c ≡ 0 → CirculationFits c
+unfolding circulationRow
+circulation-pass c e = record { flow = ltb-false _ _ (row-pass 8 (circulationOutside c) 0 e .0) }
 
 -- a factor is the one due where n are there already
 pub record FactorFits (due : List Due) (n : ℕ) (f : Factor) : Type 0 where

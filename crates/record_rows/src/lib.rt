@@ -1,4 +1,4 @@
-// Rows 2 to 13 of an interval sheet, by a record's fields and by how many records of each kind there are.
+// Rows 2 to 13 and 28 of an interval sheet, by a record's fields and by how many records of each kind there are.
 ghost use mathlib.Core.Path.{_≡_};
 ghost use mathlib.Core.Bool.{not};
 ghost use Rattle.rows.specs.Rows.{row};
@@ -6,12 +6,14 @@ ghost use Rattle.names.specs.Names.{nameOk};
 ghost use Rattle.records.specs.Content.{bears};
 ghost use Rattle.due_factors.specs.Due.{dueList};
 ghost use Rattle.due_factors.specs.inner.Places.{Few};
-ghost use Rattle.record_rows.specs.Rows.{unknownKind, outOfOrder, oneTooMany, frontRow, headRow, zoneRow, unitRow, pointRow, parRow, factorRow, endRow};
+ghost use Rattle.record_rows.specs.Rows.{unknownKind, outOfOrder, oneTooMany, frontRow, headRow, zoneRow, unitRow, pointRow, parRow, factorRow, pathRow, circulationRow, endRow};
 use due_factors::Counts;
 use due_factors::Due;
+use records::Circulation;
 use records::Factor;
 use records::Head;
 use records::Par;
+use records::Path;
 use records::Point;
 use records::Unit;
 use records::Zone;
@@ -21,10 +23,11 @@ use rows::row;
 pub fn front_row(last: u8, kind: u8, earlier: usize, left: usize) -> u8
     ensures { λ r. ⌜ r ≡ frontRow last kind earlier left 0 ⌝ }
 {
-    let unknown = (kind < 1) | (6 < kind);
+    let unknown = (kind < 1) | (8 < kind);
     let short = left < record_table::body_length(kind);
     let falls = (kind < last) | ((kind == 1) & (1 <= earlier));
-    let surplus = !((kind < 2) | (5 < kind)) & (record_table::most_of(kind) <= earlier);
+    let limited = !((kind < 2) | (5 < kind)) | !((kind < 7) | (8 < kind));
+    let surplus = limited & (record_table::most_of(kind) <= earlier);
     row(2, unknown, row(3, short, row(4, falls, row(5, surplus, 0))))
 }
 
@@ -103,12 +106,29 @@ pub fn factor_row(n: Counts, earlier: usize, f: Factor) -> u8
     )
 }
 
-// Rows 12 and 13.
-pub fn end_row(n: Counts, factors: usize) -> u8
+pub fn path_row(well: bool, repeated: bool, p: Path) -> u8
+    requires { ⌜ well ≡ nameOk (p .name) ⌝ }
+    ensures { λ r. ⌜ r ≡ pathRow repeated p ⌝ }
+{
+    let power = field_rows::path_outside(p);
+    let factor = field_rows::path_factor_outside(p);
+    name_rows(well, repeated, row(9, power, row(11, factor, 0)))
+}
+
+pub fn circulation_row(c: Circulation) -> u8
+    ensures { λ r. ⌜ r ≡ circulationRow c ⌝ }
+{
+    row(9, field_rows::circulation_outside(c), 0)
+}
+
+// Rows 12, 13 and 28.
+pub fn end_row(n: Counts, factors: usize, paths: usize, circulations: usize) -> u8
     requires { ⌜ Few n ⌝ }
-    ensures { λ r. ⌜ r ≡ endRow n factors ⌝ }
+    ensures { λ r. ⌜ r ≡ endRow n factors paths circulations ⌝ }
 {
     let none = (n.zones == 0) | (n.units == 0);
     let still_due = factors < due_factors::due_count(n);
-    row(12, none, row(13, still_due, 0))
+    let lake = (1 <= paths) | (1 <= circulations);
+    let in_part = lake & ((paths < 4) | (circulations < 1));
+    row(12, none, row(13, still_due, row(28, in_part, 0)))
 }

@@ -13,14 +13,16 @@ use Rattle.record_table.specs.Table.{byKind, total, bodyLength, KindRow,
 use Rattle.record_table.specs.inner.Sizes.{size, mostSize}
 
 -- a fact of each kind
-pub kinds : (P : ℕ → Type 0) → P 1 → P 2 → P 3 → P 4 → P 5 → P 6 → (kind : ℕ) → 1 ≤ kind → kind ≤ lastKind → P kind
-kinds P p1 p2 p3 p4 p5 p6 k g h =
+pub kinds : (P : ℕ → Type 0) → P 1 → P 2 → P 3 → P 4 → P 5 → P 6 → P 7 → P 8 → (kind : ℕ) → 1 ≤ kind → kind ≤ lastKind → P kind
+kinds P p1 p2 p3 p4 p5 p6 p7 p8 k g h =
     below-or k 2 (λ a. let e : k ≡ 1 = omega arith in rw e p1)
     (λ a. below-or k 3 (λ b. let e : k ≡ 2 = omega arith in rw e p2)
     (λ a. below-or k 4 (λ b. let e : k ≡ 3 = omega arith in rw e p3)
     (λ a. below-or k 5 (λ b. let e : k ≡ 4 = omega arith in rw e p4)
     (λ a. below-or k 6 (λ b. let e : k ≡ 5 = omega arith in rw e p5)
-    (λ a. let e : k ≡ 6 = omega arith in rw e p6)))))
+    (λ a. below-or k 7 (λ b. let e : k ≡ 6 = omega arith in rw e p6)
+    (λ a. below-or k 8 (λ b. let e : k ≡ 7 = omega arith in rw e p7)
+    (λ a. let e : k ≡ 8 = omega arith in rw e p8)))))))
 
 module _ {A : Type 0} (none : A) where
   -- any other kind
@@ -28,8 +30,8 @@ module _ {A : Type 0} (none : A) where
   no-entry es zero h = refl
   no-entry es (suc k) h = below-or k (length es) (λ a. absurd (h (omega arith) (omega arith))) (λ a. List·getD-eq-default es none a)
 
-  pub another : (es : List A) → length es ≡ 6 → (k : ℕ) → (k ≡ 1 → ⊥) → (k ≡ 2 → ⊥) → (k ≡ 3 → ⊥) → (k ≡ 4 → ⊥) → (k ≡ 5 → ⊥) → (k ≡ 6 → ⊥) → byKind k none es ≡ none
-  another es e k n1 n2 n3 n4 n5 n6 = no-entry es k (λ g h. kinds (λ (j : ℕ). k ≡ j → ⊥) n1 n2 n3 n4 n5 n6 k g (rw e at h) refl)
+  pub another : (es : List A) → length es ≡ lastKind → (k : ℕ) → (k ≡ 1 → ⊥) → (k ≡ 2 → ⊥) → (k ≡ 3 → ⊥) → (k ≡ 4 → ⊥) → (k ≡ 5 → ⊥) → (k ≡ 6 → ⊥) → (k ≡ 7 → ⊥) → (k ≡ 8 → ⊥) → byKind k none es ≡ none
+  another es e k n1 n2 n3 n4 n5 n6 n7 n8 = no-entry es k (λ g h. kinds (λ (j : ℕ). k ≡ j → ⊥) n1 n2 n3 n4 n5 n6 n7 n8 k g (rw e at h) refl)
 
   -- a test that each entry passes, by computing
   unfoldable pub passing : (A → Bool) → List A → Bool
@@ -50,11 +52,19 @@ pub size-most : (kind : ℕ) → size kind ≤ mostSize
 unfolding passing
 size-most k = leb-true _ _ (checked noKind (λ (r : KindRow). leb (total (r .fields) + 1) mostSize) kindRows refl refl k)
 
+-- a kind without a name does not have one
+pub unnamed : {A : Type 0} → false ≡ true → A
+unnamed q = let z : _≡_ {A = ℕ} 0 1 = cc in absurd (omega arith)
+
 implied : (a b : Bool) → (not a || b) ≡ true → a ≡ true → b ≡ true
 implied true b p q = p
-implied false b p q = let z : _≡_ {A = ℕ} 0 1 = cc in absurd (omega arith)
+implied false b p q = unnamed q
 
 -- a name fits into the body of a kind that has one
 pub name-room : (kind : ℕ) → kindOf kind .named ≡ true → 16 ≤ bodyLength kind
 unfolding passing
 name-room k n = leb-true _ _ (implied (kindOf k .named) _ (checked noKind (λ (r : KindRow). not (r .named) || leb 16 (total (r .fields))) kindRows refl refl k) n)
+
+pub named-kind : (kind : ℕ) → 1 ≤ kind → kind ≤ lastKind → (kind ≡ 6 → ⊥) → (kind ≡ 8 → ⊥) → kindOf kind .named ≡ true
+named-kind k g h a b =
+    kinds (λ (j : ℕ). k ≡ j → kindOf j .named ≡ true) (λ e. refl) (λ e. refl) (λ e. refl) (λ e. refl) (λ e. refl) (λ e. absurd (a e)) (λ e. refl) (λ e. absurd (b e)) k g h refl

@@ -34,8 +34,16 @@ parKind = record { fields = 16 ∷ 1 ∷ 4 ∷ 4 ∷ []; named = true; most = 8 
 abbrev pub factorKind : KindRow
 factorKind = record { fields = 1 ∷ 1 ∷ 2 ∷ 2 ∷ []; named = false; most = 0 }
 
+-- 7: name; path market flow; factor (document 02, request 6)
+abbrev pub pathKind : KindRow
+pathKind = record { fields = 16 ∷ 4 ∷ 2 ∷ []; named = true; most = 4 }
+
+-- 8: Lake Erie circulation (document 02, request 6)
+abbrev pub circulationKind : KindRow
+circulationKind = record { fields = 4 ∷ []; named = false; most = 1 }
+
 abbrev pub kindRows : List KindRow
-kindRows = headKind ∷ zoneKind ∷ unitKind ∷ pointKind ∷ parKind ∷ factorKind ∷ []
+kindRows = headKind ∷ zoneKind ∷ unitKind ∷ pointKind ∷ parKind ∷ factorKind ∷ pathKind ∷ circulationKind ∷ []
 
 abbrev pub lastKind : ℕ
 lastKind = length kindRows

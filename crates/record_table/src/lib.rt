@@ -15,6 +15,10 @@ pub const PAR_KIND: u8 = 5;
 
 pub const FACTOR_KIND: u8 = 6;
 
+pub const PATH_KIND: u8 = 7;
+
+pub const CIRCULATION_KIND: u8 = 8;
+
 // How many bytes a body of a kind has.
 pub const HEAD_BODY: usize = 27;
 
@@ -28,6 +32,10 @@ pub const PAR_BODY: usize = 25;
 
 pub const FACTOR_BODY: usize = 6;
 
+pub const PATH_BODY: usize = 22;
+
+pub const CIRCULATION_BODY: usize = 4;
+
 // How many records of a kind there may be.
 pub const MOST_HEADS: usize = 1;
 
@@ -39,6 +47,10 @@ pub const MOST_POINTS: usize = 32;
 
 pub const MOST_PARS: usize = 8;
 
+pub const MOST_PATHS: usize = 4;
+
+pub const MOST_CIRCULATIONS: usize = 1;
+
 pub fn body_length(kind: u8) -> usize
     ensures { λ r. ⌜ r ≡ bodyLength kind ⌝ }
 {
@@ -49,6 +61,8 @@ pub fn body_length(kind: u8) -> usize
         4 => POINT_BODY,
         5 => PAR_BODY,
         6 => FACTOR_BODY,
+        7 => PATH_BODY,
+        8 => CIRCULATION_BODY,
         _ => 0,
     }
 }
@@ -62,6 +76,8 @@ pub fn most_of(kind: u8) -> usize
         3 => MOST_UNITS,
         4 => MOST_POINTS,
         5 => MOST_PARS,
+        7 => MOST_PATHS,
+        8 => MOST_CIRCULATIONS,
         _ => 0,
     }
 }

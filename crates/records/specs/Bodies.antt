@@ -13,7 +13,9 @@ use Rattle.records.specs.declared.Place.the-variants.{Proxy, Line}
 use Rattle.records.specs.declared.Point.{Point}
 use Rattle.records.specs.declared.Par.{Par}
 use Rattle.records.specs.declared.Factor.{Factor}
-use Rattle.record_table.specs.Table.{fieldAt, headKind, zoneKind, unitKind, pointKind, parKind, factorKind}
+use Rattle.records.specs.declared.Path.{Path}
+use Rattle.records.specs.declared.Circulation.{Circulation}
+use Rattle.record_table.specs.Table.{fieldAt, headKind, zoneKind, unitKind, pointKind, parKind, factorKind, pathKind, circulationKind}
 
 -- a point's place: a proxy (0), or a scheduled line that ends in the zone of that number
 abbrev pub placeOf : ℕ → Place
@@ -69,3 +71,13 @@ factorOf b = record {
   index = be16 b (fieldAt factorKind 2);
   factor = sbe16 b (fieldAt factorKind 3);
 }
+
+unfoldable pub pathOf : List ℕ → Path
+pathOf b = record {
+  name = nameAt b (fieldAt pathKind 0);
+  flow = sbe32 b (fieldAt pathKind 1);
+  factor = sbe16 b (fieldAt pathKind 2);
+}
+
+unfoldable pub circulationOf : List ℕ → Circulation
+circulationOf b = record { flow = sbe32 b (fieldAt circulationKind 0) }

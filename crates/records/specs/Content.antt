@@ -12,10 +12,12 @@ use Rattle.records.specs.declared.Place.the-variants.{Proxy}
 use Rattle.records.specs.declared.Point.{Point}
 use Rattle.records.specs.declared.Par.{Par}
 use Rattle.records.specs.declared.Factor.{Factor}
+use Rattle.records.specs.declared.Path.{Path}
+use Rattle.records.specs.declared.Circulation.{Circulation}
 use Rattle.record_table.specs.Table.{byKind}
-use Rattle.records.specs.Bodies.{headOf, zoneOf, unitOf, pointOf, parOf, factorOf}
+use Rattle.records.specs.Bodies.{headOf, zoneOf, unitOf, pointOf, parOf, factorOf, pathOf, circulationOf}
 
--- an accepted sheet has one head
+-- an accepted sheet has one head, and four paths and one circulation or neither (document 02, request 6)
 pub record Content : Type 0 where
   pub heads : List Head
   pub zones : List Zone
@@ -23,9 +25,11 @@ pub record Content : Type 0 where
   pub points : List Point
   pub pars : List Par
   pub factors : List Factor
+  pub paths : List Path
+  pub circulations : List Circulation
 
 abbrev pub noContent : Content
-noContent = record { heads = []; zones = []; units = []; points = []; pars = []; factors = [] }
+noContent = record { heads = []; zones = []; units = []; points = []; pars = []; factors = []; paths = []; circulations = [] }
 
 -- what stands for a record where a list has none at an index; no definition of a figure depends on it
 abbrev pub noName : List ℕ
@@ -49,6 +53,12 @@ noPar = record { name = noName; class = 0; actual = pos 0; target = pos 0 }
 abbrev pub noFactor : Factor
 noFactor = record { target = 0; subject = 0; index = 0; factor = pos 0 }
 
+abbrev pub noPath : Path
+noPath = record { name = noName; flow = pos 0; factor = pos 0 }
+
+abbrev pub noCirculation : Circulation
+noCirculation = record { flow = pos 0 }
+
 -- the records at an index from 0
 abbrev pub head : Content → Head
 head c = getD (c .heads) 0 noHead
@@ -64,6 +74,12 @@ point c i = getD (c .points) i noPoint
 
 abbrev pub par : Content → ℕ → Par
 par c i = getD (c .pars) i noPar
+
+abbrev pub path : Content → ℕ → Path
+path c i = getD (c .paths) i noPath
+
+abbrev pub circulation : Content → Circulation
+circulation c = getD (c .circulations) 0 noCirculation
 
 -- whether a record is the factor for a target, a subject and an index from 1
 unfoldable pub bears : Factor → ℕ → ℕ → ℕ → Bool
@@ -87,14 +103,25 @@ withRecord c kind b = record {
   points = c .points ++ onlyIf (eqb kind 4) (pointOf b);
   pars = c .pars ++ onlyIf (eqb kind 5) (parOf b);
   factors = c .factors ++ onlyIf (eqb kind 6) (factorOf b);
+  paths = c .paths ++ onlyIf (eqb kind 7) (pathOf b);
+  circulations = c .circulations ++ onlyIf (eqb kind 8) (circulationOf b);
 }
 
 -- how many records of a kind there are
 abbrev pub countOf : Content → ℕ → ℕ
 countOf c kind =
-    byKind kind 0 (length (c .heads) ∷ length (c .zones) ∷ length (c .units) ∷ length (c .points) ∷ length (c .pars) ∷ length (c .factors) ∷ [])
+    byKind kind 0
+    (length (c .heads)
+    ∷ length (c .zones)
+    ∷ length (c .units)
+    ∷ length (c .points)
+    ∷ length (c .pars)
+    ∷ length (c .factors)
+    ∷ length (c .paths)
+    ∷ length (c .circulations)
+    ∷ [])
 
--- the names of a kind's records, in their order
+-- the names of a kind's records, in their order: factors and the circulation have none
 unfoldable pub namesOf : Content → ℕ → List (List ℕ)
 namesOf c kind =
     byKind kind []
@@ -103,4 +130,6 @@ namesOf c kind =
     ∷ map (λ (u : Unit). u .name) (c .units)
     ∷ map (λ (p : Point). p .name) (c .points)
     ∷ map (λ (p : Par). p .name) (c .pars)
+    ∷ []
+    ∷ map (λ (p : Path). p .name) (c .paths)
     ∷ [])

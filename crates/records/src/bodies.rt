@@ -4,10 +4,12 @@ ghost use Prim.Native.Nat.{_≤_};
 ghost use lib.ListN.{length};
 ghost use Rattle.names.specs.Names.{nameAt};
 ghost use Rattle.record_table.specs.Table.{bodyLength};
-ghost use Rattle.records.specs.Bodies.{placeOf, headOf, zoneOf, unitOf, pointOf, parOf, factorOf};
+ghost use Rattle.records.specs.Bodies.{placeOf, headOf, zoneOf, unitOf, pointOf, parOf, factorOf, pathOf, circulationOf};
+use super::Circulation;
 use super::Factor;
 use super::Head;
 use super::Par;
+use super::Path;
 use super::Place;
 use super::Point;
 use super::Unit;
@@ -120,5 +122,26 @@ pub fn factor_of(b: &[u8]) -> Factor
         subject: b[1],
         index: fields::ube16_at(b, 2),
         factor: fields::sbe16_at(b, 4),
+    }
+}
+
+pub fn path_of(b: &[u8]) -> Path
+    requires { ⌜ bodyLength 7 ≤ length (now b) ⌝ }
+    ensures { λ r. ⌜ r ≡ pathOf (now (b .entry)) ⌝ }
+{
+    let name = name_of(b);
+    Path {
+        name,
+        flow: fields::sbe32_at(b, 16),
+        factor: fields::sbe16_at(b, 20),
+    }
+}
+
+pub fn circulation_of(b: &[u8]) -> Circulation
+    requires { ⌜ bodyLength 8 ≤ length (now b) ⌝ }
+    ensures { λ r. ⌜ r ≡ circulationOf (now (b .entry)) ⌝ }
+{
+    Circulation {
+        flow: fields::sbe32_at(b, 0),
     }
 }

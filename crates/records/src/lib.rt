@@ -80,4 +80,18 @@ pub struct Factor {
     pub factor: i16,
 }
 
+// Kind 7. A path between Michigan and Ontario (document 02, request 6). flow: its path market flow.
+#[repr(C)]
+pub struct Path {
+    pub name: [u8; 16],
+    pub flow: i32,
+    pub factor: i16,
+}
+
+// Kind 8. The Lake Erie circulation (document 02, request 6).
+#[repr(C)]
+pub struct Circulation {
+    pub flow: i32,
+}
+
 pub mod bodies;

@@ -18,7 +18,8 @@ use Rattle.due_factors.proofs.Runs.{RunDue}
 use Rattle.record_rows.specs.Rows.{factorRow, recordRow, bodyRow}
 use Rattle.record_rows.proofs.FrontRows.{front-factor}
 use Rattle.layout.specs.declared.Layout.{Layout}
-use Rattle.layout.specs.inner.Places.{countsIn, counted, contentAt, dueOf}
+use Rattle.layout.specs.inner.Places.{countsIn, counted, firstOf, contentAt, dueOf}
+use Rattle.layout.specs.inner.Listed.{Listed}
 use Rattle.layout.proofs.Contents.{count-at, counts-at}
 use Rattle.sheet.specs.inner.Passed.{Passed, more}
 use Rattle.sheet.specs.inner.GoodFactors.{keyOf, Good, withFactors}
@@ -30,7 +31,12 @@ key-parts a b x t j i hb hx hj hi e = (omega arith, omega arith, omega arith)
 
 counted-factor : (l : Layout) → counted l 6 ≡ withFactors l 1
 unfolding counted
-counted-factor l = rw (add-zero (l .heads), add-zero (l .zones), add-zero (l .units), add-zero (l .points), add-zero (l .pars))
+counted-factor l = rw (add-zero (l .heads), add-zero (l .zones), add-zero (l .units), add-zero (l .points), add-zero (l .pars), add-zero (l .paths), add-zero (l .circulations))
+
+-- factors have no names: the index of names stays
+pub listed-factors : (s : List ℕ) (l : Layout) (n : ℕ) (table : List ℕ) → Listed s l 6 table → Listed s (withFactors l n) 6 table
+unfolding firstOf
+listed-factors s l n table x = record { full = x .full; holds = x .holds }
 
 module _ (s : List ℕ) where
   -- the fields where they stand in the sheet

@@ -1,4 +1,4 @@
--- A sheet's first 28,039 bytes decide: no accepted sheet is longer than 28,004 bytes, and in a longer one a record is refused that begins at or before that place.
+-- A sheet's first 28,136 bytes decide: no accepted sheet is longer than 28,101 bytes, and in a longer one a record is refused that begins at or before that place.
 use Prim.Native.Nat.{ℕ, zero, suc, _+_, _-_, _≤_, _<_}
 use mathlib.Core.Path.{_≡_, refl, sym, ap, _∙_}
 use mathlib.Core.List.{List, [], _∷_}
@@ -37,7 +37,7 @@ few-factors {c = c} p =
     omega (arith, length-take-le (length (c .factors) - 1) (c .factors) (omega arith)))
     (λ a. omega arith)
 
-pub worked-lengths : (longestSheet ≡ 28004) × (deciding ≡ 28039)
+pub worked-lengths : (longestSheet ≡ 28101) × (deciding ≡ 28136)
 worked-lengths = (refl, refl)
 
 at-most : (l : Layout) → Allowed l → l .factors ≤ length (dueOf l) → extent l ≤ longestSheet

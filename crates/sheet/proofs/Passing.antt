@@ -9,14 +9,16 @@ use lib.ListN.{length, drop, length-append, length-drop}
 use borrow.Author.Tests.{eqb-true, leb-false}
 use Rattle.fields.specs.Fields.{byteAt}
 use Rattle.rows.specs.Rows.{row, cutShort}
-use Rattle.record_table.specs.Table.{bodyLength, bodyIn}
-use Rattle.records.specs.Bodies.{headOf, zoneOf, unitOf, pointOf, parOf, factorOf}
+use Rattle.record_table.specs.Table.{kindOf, lastKind, bodyLength, bodyIn}
+use Rattle.records.specs.Bodies.{headOf, zoneOf, unitOf, pointOf, parOf, factorOf, pathOf, circulationOf}
 use Rattle.records.specs.Content.{Content, noContent, countOf, onlyIf, withRecord}
 use Rattle.record_rows.specs.Rows.{factorRow, repeats, recordRow, bodyRow}
 use Rattle.record_rows.proofs.FrontRows.{Fronted, front-pass, front-factor}
 use Rattle.layout.specs.declared.Layout.{Layout}
 use Rattle.layout.specs.inner.Places.{one, count, dueOf, counted, noRecords, Allowed, contentAt}
 use Rattle.layout.specs.Layout.{layoutOf}
+use Rattle.layout.specs.inner.Listed.{Listed}
+use Rattle.layout.proofs.Listed.{listed-at, listed-kept}
 use Rattle.layout.proofs.Laid.{Laid, laid-none, laid-next}
 use Rattle.layout.proofs.Contents.{none-at, layout-at, count-at, counts-at, content-next}
 use Rattle.sheet.specs.inner.Passed.{Passed, none, more}
@@ -36,6 +38,8 @@ layout-with c k b =
       one-more (c .points) (eqb k 4) (pointOf b),
       one-more (c .pars) (eqb k 5) (parOf b),
       one-more (c .factors) (eqb k 6) (factorOf b),
+      one-more (c .paths) (eqb k 7) (pathOf b),
+      one-more (c .circulations) (eqb k 8) (circulationOf b),
     )
 
 layout-none : layoutOf noContent ≡ noRecords
@@ -56,7 +60,7 @@ module _ (s : List ℕ) where
   passed-within none = omega arith
   passed-within (more {at} {last} {c} p h e) = omega (arith, fronted s at last c h e .fits)
 
-  pub passed-last : {at last : ℕ} {c : Content} → Passed s at last c → last ≤ 6
+  pub passed-last : {at last : ℕ} {c : Content} → Passed s at last c → last ≤ lastKind
   passed-last none = omega arith
   passed-last (more {at} {last} {c} p h e) = fronted s at last c h e .high
 
@@ -87,6 +91,8 @@ module _ (s : List ℕ) where
   unfolding layoutOf withRecord
   passed-allowed none = record {
     heads = omega arith;
+    paths = omega arith;
+    circulations = omega arith;
     few = record { zones-most = omega arith; units-most = omega arith; points-most = omega arith; pars-most = omega arith };
   }
   passed-allowed (more {at} {last} {c} p h e) =
@@ -95,6 +101,8 @@ module _ (s : List ℕ) where
       let k = byteAt s at in
       record {
         heads = cap-next (c .heads) 1 k 1 _ (a .heads) (λ q. rw q at (f .head q));
+        paths = cap-next (c .paths) 4 k 7 _ (a .paths) (λ q. leb-false _ _ (rw q at (f .room)));
+        circulations = cap-next (c .circulations) 1 k 8 _ (a .circulations) (λ q. leb-false _ _ (rw q at (f .room)));
         few = record {
           zones-most = cap-next (c .zones) 32 k 2 _ (a .few .zones-most) (λ q. leb-false _ _ (rw q at (f .room)));
           units-most = cap-next (c .units) 256 k 3 _ (a .few .units-most) (λ q. leb-false _ _ (rw q at (f .room)));
@@ -120,7 +128,15 @@ module _ (s : List ℕ) where
         let f = at-fronted h e in
         sym (content-next s l last at (byteAt s at) at-laid (f .low) (f .high) (f .order))
 
--- the rows of a factor
+    -- a record without a name leaves the index of names as it was
+    pub at-listed : (table : List ℕ) → at < length s → recordRow (contentAt s l) last (byteAt s at) (drop (at + 1) s) ≡ 0 →
+        kindOf (byteAt s at) .named ≡ false → Listed s l last table → Listed s (counted l (byteAt s at)) (byteAt s at) table
+    at-listed table h e n x =
+        let f = at-fronted h e in
+        let k = byteAt s at in
+        listed-kept s l k table (f .low) (f .high) n (listed-at s l k table last at at-laid (f .order) (f .high) x)
+
+-- the rows of a factor that no later kind stands before
 factor-rows : (s : List ℕ) (l : Layout) (last : ℕ) (r : List ℕ) → last ≤ 6 → recordRow (contentAt s l) last 6 r ≡ row 3 (cutShort (bodyLength 6) (length r)) (factorRow (dueOf l) (l .factors) (factorOf (bodyIn 6 r)))
 unfolding recordRow bodyRow
 factor-rows s l last r h = front-factor last (countOf (contentAt s l) 6) (length r) _ h ∙ rw (counts-at s l, count-at s l 6)

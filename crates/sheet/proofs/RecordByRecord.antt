@@ -53,7 +53,7 @@ module _ (s : List ℕ) (at last : ℕ) (c : Content) where
   from-end h = rw (drop-of-length-le s {i = at} h)
 
 -- behind records that pass, what is left answers for the whole
-from-passed : (s : List ℕ) {at last : ℕ} {c : Content} → Passed s at last c → recordsFrom at 0 last c (drop at s) ≡ recordsFrom 0 0 0 noContent s
+pub from-passed : (s : List ℕ) {at last : ℕ} {c : Content} → Passed s at last c → recordsFrom at 0 last c (drop at s) ≡ recordsFrom 0 0 0 noContent s
 from-passed s none = refl
 from-passed s (more {at} {last} {c} p h e) = from-next s at last c h e ∙ from-passed s p
 

@@ -17,12 +17,14 @@ use Rattle.records.specs.declared.Unit.{Unit}
 use Rattle.records.specs.declared.Point.{Point}
 use Rattle.records.specs.declared.Par.{Par}
 use Rattle.records.specs.declared.Factor.{Factor}
-use Rattle.record_table.specs.Table.{bodyIn}
-use Rattle.records.specs.Bodies.{headOf, zoneOf, unitOf, pointOf, parOf, factorOf}
-use Rattle.records.specs.Content.{Content, noContent, onlyIf, withRecord, namesOf, noHead, noZone, noUnit, noPoint, noPar, noFactor}
+use Rattle.records.specs.declared.Path.{Path}
+use Rattle.records.specs.declared.Circulation.{Circulation}
+use Rattle.record_table.specs.Table.{bodyIn, lastKind}
+use Rattle.records.specs.Bodies.{headOf, zoneOf, unitOf, pointOf, parOf, factorOf, pathOf, circulationOf}
+use Rattle.records.specs.Content.{Content, noContent, onlyIf, withRecord, namesOf, noHead, noZone, noUnit, noPoint, noPar, noFactor, noPath, noCirculation}
 use Rattle.record_rows.specs.Rows.{repeats, recordRow, bodyRow}
-use Rattle.record_rows.specs.inner.Valid.{HeadFits, ZoneFits, UnitFits, PointFits, ParFits}
-use Rattle.record_rows.proofs.Passes.{Passes, head-pass, zone-pass, unit-pass, point-pass, par-pass, FactorFits, factor-pass}
+use Rattle.record_rows.specs.inner.Valid.{HeadFits, ZoneFits, UnitFits, PointFits, ParFits, PathFits, CirculationFits}
+use Rattle.record_rows.proofs.Passes.{Passes, head-pass, zone-pass, unit-pass, point-pass, par-pass, FactorFits, factor-pass, path-pass, circulation-pass}
 use Rattle.layout.specs.declared.Layout.{Layout}
 use Rattle.layout.specs.inner.Places.{count, dueOf}
 use Rattle.layout.specs.Layout.{layoutOf}
@@ -32,7 +34,7 @@ use Rattle.sheet.proofs.Passing.{layout-with, fronted, body-passes, pas
 
 -- A kind with its list, and what its rows leave of a record behind others: it depends on the counts of the kinds below, which are final
 pub record Kind {A : Type 0} (kind : ℕ) (list : Content → List A) (of : List ℕ → A) (P : Layout → List A → A → Type 0) : Type 0 where
-  pub high : kind ≤ 6
+  pub high : kind ≤ lastKind
   pub empty : list noContent ≡ []
   pub grows : (c : Content) (k : ℕ) (b : List ℕ) → list (withRecord c k b) ≡ list c ++ onlyIf (eqb k kind) (of b)
   pub counts : (c : Content) → count (layoutOf c) kind ≡ length (list c)
@@ -68,7 +70,7 @@ module _ {A : Type 0} (kind : ℕ) (list : Content → List A) (of : List ℕ �
     abbrev b : List ℕ
     b = bodyIn k (drop (at + 1) s)
 
-    others : (j : ℕ) → j ≤ 6 → (k ≡ j → ⊥) → count (layoutOf (withRecord c k b)) j ≡ count (layoutOf c) j
+    others : (j : ℕ) → j ≤ lastKind → (k ≡ j → ⊥) → count (layoutOf (withRecord c k b)) j ≡ count (layoutOf c) j
     others j g n = rw (layout-with c k b) (count-other (layoutOf c) k j g n)
 
     step : (t : Bool) → eqb k kind ≡ t → Each (withRecord c k b)
@@ -107,6 +109,12 @@ ParFine l before p = Passes (p .name) (seenBefore (map (λ (p : Par). p .name) b
 abbrev pub FactorFine : Layout → List Factor → Factor → Type 0
 FactorFine l before f = FactorFits (dueOf l) (length before) f
 
+abbrev pub PathFine : Layout → List Path → Path → Type 0
+PathFine l before p = Passes (p .name) (seenBefore (map (λ (p : Path). p .name) before) (p .name)) (PathFits p)
+
+abbrev pub CirculationFine : Layout → List Circulation → Circulation → Type 0
+CirculationFine l before c = CirculationFits c
+
 head-kind : Kind 1 (λ c. c .heads) headOf HeadFine
 unfolding withRecord layoutOf bodyRow
 head-kind = record { high = omega arith; empty = refl; grows = λ c k b. refl; counts = λ c. refl; final = λ l m f before h p. p; passes = λ c b e. head-pass (headOf b) e }
@@ -131,6 +139,14 @@ factor-kind : Kind 6 (λ c. c .factors) factorOf FactorFine
 unfolding withRecord layoutOf bodyRow
 factor-kind = record { high = omega arith; empty = refl; grows = λ c k b. refl; counts = λ c. refl; final = λ l m f before x p. rw (f 2 (omega arith), f 3 (omega arith), f 4 (omega arith), f 5 (omega arith)) p; passes = λ c b e. factor-pass _ _ (factorOf b) e }
 
+path-kind : Kind 7 (λ c. c .paths) pathOf PathFine
+unfolding withRecord layoutOf bodyRow namesOf pathOf
+path-kind = record { high = omega arith; empty = refl; grows = λ c k b. refl; counts = λ c. refl; final = λ l m f before p q. q; passes = λ c b e. path-pass _ (pathOf b) e }
+
+circulation-kind : Kind 8 (λ c. c .circulations) circulationOf CirculationFine
+unfolding withRecord layoutOf bodyRow
+circulation-kind = record { high = omega arith; empty = refl; grows = λ c k b. refl; counts = λ c. refl; final = λ l m f before x q. q; passes = λ c b e. circulation-pass (circulationOf b) e }
+
 module _ {s : List ℕ} {at last : ℕ} {c : Content} (p : Passed s at last c) (i : ℕ) where
   pub passed-head : i < length (c .heads) → HeadFine (layoutOf c) (take i (c .heads)) (getD (c .heads) i noHead)
   passed-head = each 1 (λ c. c .heads) headOf noHead HeadFine head-kind p i
@@ -149,3 +165,9 @@ module _ {s : List ℕ} {at last : ℕ} {c : Content} (p : Passed s at last c) (
 
   pub passed-factor : i < length (c .factors) → FactorFine (layoutOf c) (take i (c .factors)) (getD (c .factors) i noFactor)
   passed-factor = each 6 (λ c. c .factors) factorOf noFactor FactorFine factor-kind p i
+
+  pub passed-path : i < length (c .paths) → PathFine (layoutOf c) (take i (c .paths)) (getD (c .paths) i noPath)
+  passed-path = each 7 (λ c. c .paths) pathOf noPath PathFine path-kind p i
+
+  pub passed-circulation : i < length (c .circulations) → CirculationFine (layoutOf c) (take i (c .circulations)) (getD (c .circulations) i noCirculation)
+  passed-circulation = each 8 (λ c. c .circulations) circulationOf noCirculation CirculationFine circulation-kind p i

@@ -13,7 +13,7 @@ use Rattle.rows.specs.Rows.{row}
 use Rattle.record_table.specs.Table.{bodyLength}
 use Rattle.records.specs.Content.{Content}
 use Rattle.due_factors.specs.Due.{countsOf}
-use Rattle.record_rows.specs.Rows.{unknownKind, frontRow, noZoneOrUnit, stillDue, recordRow, lastRow, endRow, firstRow}
+use Rattle.record_rows.specs.Rows.{unknownKind, frontRow, noZoneOrUnit, stillDue, lakeInPart, recordRow, lastRow, endRow, firstRow}
 use Rattle.sheet.specs.declared.Outcome.the-variants.{Refused}
 use Rattle.sheet.specs.Sheet.{Reading, holds, fails, reading, outcome, readSheet}
 use Rattle.sheet.specs.inner.Passed.{rowAt, Refuses}
@@ -58,15 +58,16 @@ short-row c last k r h = rw (lt-ltb _ _ h) (pick (unknownKind k))
     pick true = omega arith
     pick false = omega arith
 
--- at the sheet's end rows 12 and 13 alone
+-- at the sheet's end rows 12, 13 and 28 alone
 end-late : (c : Content) (number : ℕ) → lastRow c ≡ number → (number ≡ 0 → ⊥) → 12 ≤ number
 unfolding lastRow endRow
-end-late c number = pick (noZoneOrUnit (countsOf c)) (stillDue (countsOf c) (length (c .factors)))
+end-late c number = pick (noZoneOrUnit (countsOf c)) (stillDue (countsOf c) (length (c .factors))) (lakeInPart (length (c .paths)) (length (c .circulations)))
   where
-    pick : (a b : Bool) → row 12 a (row 13 b 0) ≡ number → (number ≡ 0 → ⊥) → 12 ≤ number
-    pick true b e n = omega arith
-    pick false true e n = omega arith
-    pick false false e n = absurd (n (sym e))
+    pick : (a b d : Bool) → row 12 a (row 13 b (row 28 d 0)) ≡ number → (number ≡ 0 → ⊥) → 12 ≤ number
+    pick true b d e n = omega arith
+    pick false true d e n = omega arith
+    pick false false true e n = omega arith
+    pick false false false e n = absurd (n (sym e))
 
 pub points : (s : List ℕ) (number at : ℕ) → Refuses s number at → Points s number at
 unfolding rowAt

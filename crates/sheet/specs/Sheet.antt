@@ -1,4 +1,4 @@
--- The reading of an interval sheet: its content, or the refusal that it meets of rows 1 to 13 (document 01, 'The interval sheet' and 'Where each refusal is checked').
+-- The reading of an interval sheet: its content, or the refusal that it meets of rows 1 to 13 and 28 (document 01, 'The interval sheet' and 'Where each refusal is checked').
 use Prim.Native.Nat.{ℕ, zero, suc, _+_}
 use mathlib.Core.Bool.{cond}
 use mathlib.Core.List.{List, [], _∷_}

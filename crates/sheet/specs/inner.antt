@@ -1,3 +1,4 @@
 pub mod Passed
 pub mod GoodFactors
 pub mod Longest
+pub mod RowHere

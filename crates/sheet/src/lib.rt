@@ -1,4 +1,4 @@
-// The interval sheet: read once, and refused by rows 1 to 13 or accepted with its layout.
+// The interval sheet: read once, and refused by rows 1 to 13 and 28 or accepted with its layout.
 ghost use mathlib.Core.Path.{_≡_};
 ghost use mathlib.Core.List.{List};
 ghost use Prim.Native.Nat.{ℕ, _+_, _*_, _≤_, _<_, _^_};
@@ -9,12 +9,14 @@ ghost use Rattle.rows.specs.Rows.{row, cutShort};
 ghost use Rattle.record_table.specs.Table.{bodyLength, bodyIn};
 ghost use Rattle.records.specs.Bodies.{factorOf};
 ghost use Rattle.records.specs.Content.{Content};
-ghost use Rattle.record_rows.specs.Rows.{factorRow, bodyRow, recordRow};
+ghost use Rattle.record_rows.specs.Rows.{factorRow, bodyRow, lastRow};
+ghost use Rattle.layout.specs.Layout.{layoutOf};
 ghost use Rattle.record_table.specs.inner.Sizes.{size};
-ghost use Rattle.layout.specs.inner.Places.{counted, dueOf, Allowed, contentAt};
+ghost use Rattle.layout.specs.inner.Places.{dueOf, Allowed, contentAt};
 ghost use Rattle.layout.specs.inner.Listed.{Listed};
-ghost use Rattle.sheet.specs.Sheet.{readSheet};
+ghost use Rattle.sheet.specs.Sheet.{holds, unless, recordsFrom, outcome, readSheet};
 ghost use Rattle.sheet.specs.inner.Passed.{Passed};
+ghost use Rattle.sheet.specs.inner.RowHere.{RowHere, Behind};
 ghost use Rattle.sheet.specs.inner.GoodFactors.{keyOf, Good, lesser};
 use layout::Layout;
 use layout::counts_in;
@@ -37,7 +39,7 @@ struct Reached {
     at: usize,
 }
 
-// Rows 6 to 9 of the body b of a record with a name.
+// Rows 6 to 9 of the body b of a record with a name, up to the PARs.
 fn named_row(zones: usize, kind: u8, repeated: bool, b: &[u8]) -> u8
     requires { ⌜ (1 ≤ kind) × (kind ≤ 5) × (bodyLength kind ≤ length (now b)) ⌝ }
     ensures { λ r. ⌜ ((c : Content) → length (c .zones) ≡ zones → r ≡ bodyRow c kind repeated (now (b .entry))) ⌝ }
@@ -52,7 +54,7 @@ fn named_row(zones: usize, kind: u8, repeated: bool, b: &[u8]) -> u8
     }
 }
 
-// Rows 3, 10 and 11 of a factor with the bytes b behind its kind byte.
+// Rows 3, 10 and 11 of a factor with the bytes b behind its kind byte. Row 4 fits none that no path and no circulation stand before.
 fn factor_row(l: Layout, b: &[u8]) -> u8
     requires { ⌜ Allowed l ⌝ }
     ensures { λ r. ⌜ r ≡ row 3 (cutShort (bodyLength 6) (length (now (b .entry)))) (factorRow (dueOf l) (l .factors) (factorOf (bodyIn 6 (now (b .entry))))) ⌝ }
@@ -64,10 +66,10 @@ fn factor_row(l: Layout, b: &[u8]) -> u8
     record_rows::factor_row(counts_in(l), l.factors, f)
 }
 
-// The first row that fits the record at a place, or 0. The table holds the names of the last kind, then of this record's.
+// The first row that fits the record at a place, or 0: a record up to the factors, behind others of these kinds. The table holds the names of the last kind, then of this record's.
 fn record_row(s: &[u8], l: Layout, last: u8, at: usize, table: &mut [u16]) -> u8
-    requires { ⌜ Passed (now s) at last (contentAt (now s) l) × (at < length (now s)) × Listed (now s) l last (now table) ⌝ }
-    ensures { λ r. ⌜ (r ≡ recordRow (contentAt (now (s .entry)) l) last (byteAt (now (s .entry)) at) (drop (at + 1) (now (s .entry)))) × (r ≡ 0 → Listed (now (s .entry)) (counted l (byteAt (now (s .entry)) at)) (byteAt (now (s .entry)) at) (now (table .exit))) ⌝ }
+    requires { ⌜ Passed (now s) at last (contentAt (now s) l) × (at < length (now s)) × Listed (now s) l last (now table) × (last ≤ 6) × (byteAt (now s) at ≤ 6) ⌝ }
+    ensures { λ r. ⌜ RowHere (now (s .entry)) l last at (now (table .exit)) r ⌝ }
 {
     let kind = s[at];
     let from = at + 1;
@@ -82,6 +84,26 @@ fn record_row(s: &[u8], l: Layout, last: u8, at: usize, table: &mut [u16]) -> u8
     let repeated = layout::repeated(s, l, kind, at, table);
     let to = from + record_table::body_length(kind);
     named_row(l.zones, kind, repeated, &s[from..to])
+}
+
+// The same of a record behind the factors: only a path or the circulation passes there.
+fn lake_row(s: &[u8], l: Layout, last: u8, at: usize, table: &mut [u16]) -> u8
+    requires { ⌜ Passed (now s) at last (contentAt (now s) l) × (at < length (now s)) × Listed (now s) l last (now table) × Behind last (byteAt (now s) at) ⌝ }
+    ensures { λ r. ⌜ RowHere (now (s .entry)) l last at (now (table .exit)) r ⌝ }
+{
+    let kind = s[at];
+    let from = at + 1;
+    let earlier = layout::count_of(l, kind);
+    let front = record_rows::front_row(last, kind, earlier, s.len() - from);
+    if front != 0 {
+        return front;
+    }
+    let b = &s[from..from + record_table::body_length(kind)];
+    if kind == record_table::CIRCULATION_KIND {
+        return record_rows::circulation_row(bodies::circulation_of(b));
+    }
+    let repeated = layout::repeated(s, l, kind, at, table);
+    record_rows::path_row(names::name_ok_at(b, 0), repeated, bodies::path_of(b))
 }
 
 // Whether a factor with this target, subject and index stands at a place and passes.
@@ -149,9 +171,43 @@ fn past_factors(s: &[u8], l: Layout, last: u8, at: usize) -> Reached
             points: l.points,
             pars: l.pars,
             factors: l.factors + n,
+            paths: l.paths,
+            circulations: l.circulations,
         },
         at: at + FACTOR_SIZE * n,
     }
+}
+
+// The answer at the sheet's end.
+fn ended(l: Layout, at: usize) -> Outcome
+    requires { ⌜ Allowed l ⌝ }
+    ensures { λ r. ⌜ ((c : Content) → layoutOf c ≡ l → r ≡ outcome (unless (lastRow c) at (holds c))) ⌝ }
+{
+    let row = record_rows::end_row(counts_in(l), l.factors, l.paths, l.circulations);
+    if row != 0 {
+        return Outcome::Refused(row, at);
+    }
+    Outcome::Accepted(l)
+}
+
+// The answer from a record behind the factors on.
+fn read_lake(s: &[u8], l: Layout, last: u8, at: usize, table: &mut [u16]) -> Outcome
+    requires { ⌜ Passed (now s) at last (contentAt (now s) l) × Listed (now s) l last (now table) × Behind last (byteAt (now s) at) ⌝ }
+    ensures { λ r. ⌜ r ≡ outcome (recordsFrom at 0 last (contentAt (now (s .entry)) l) (drop at (now (s .entry)))) ⌝ }
+{
+    let mut l = l;
+    let mut last = last;
+    let mut at = at;
+    while at < s.len() {
+        let row = lake_row(s, l, last, at, table);
+        if row != 0 {
+            return Outcome::Refused(row, at);
+        }
+        last = s[at];
+        l = layout::counted(l, last);
+        at = at + 1 + record_table::body_length(last);
+    }
+    ended(l, at)
 }
 
 pub fn read(s: &[u8]) -> Outcome
@@ -170,11 +226,16 @@ pub fn read(s: &[u8]) -> Outcome
         points: 0,
         pars: 0,
         factors: 0,
+        paths: 0,
+        circulations: 0,
     };
     let mut table = [0u16; layout::TABLE_SIZE];
     let mut last = 0;
     let mut at = 0;
     while at < s.len() {
+        if FACTOR_KIND < s[at] {
+            return read_lake(s, l, last, at, &mut table);
+        }
         let number = record_row(s, l, last, at, &mut table);
         if number != 0 {
             return Outcome::Refused(number, at);
@@ -186,9 +247,5 @@ pub fn read(s: &[u8]) -> Outcome
         l = past.l;
         at = past.at;
     }
-    let number = record_rows::end_row(counts_in(l), l.factors);
-    if number != 0 {
-        return Outcome::Refused(number, at);
-    }
-    Outcome::Accepted(l)
+    ended(l, at)
 }

@@ -1,7 +1,7 @@
 // The records of an accepted sheet, read where they stand; those of a kind are counted from 0.
 ghost use mathlib.Core.Path.{_≡_};
 ghost use Prim.Native.Nat.{_+_, _<_};
-ghost use Rattle.records.specs.Content.{head, zone, unit, point, par, factorFor};
+ghost use Rattle.records.specs.Content.{head, zone, unit, point, par, path, circulation, factorFor};
 ghost use Rattle.due_factors.specs.Due.{Asked};
 ghost use Rattle.sheet.specs.declared.Outcome.the-variants.{Accepted};
 ghost use Rattle.sheet.specs.Sheet.{readSheet, contentOf};
@@ -52,4 +52,18 @@ pub fn factor_at(s: &[u8], l: Layout, target: usize, subject: u8, i: usize) -> i
     let n = due_factors::place_of(counts_in(l), target, subject, i);
     let f = bodies::factor_of(layout::body_at(s, l, record_table::FACTOR_KIND, n));
     f.factor as i64
+}
+
+pub fn path_at(s: &[u8], l: Layout, i: usize) -> records::Path
+    requires { ⌜ (readSheet (now s) ≡ Accepted l) × (i < l .paths) ⌝ }
+    ensures { λ r. ⌜ r ≡ path (contentOf (now (s .entry))) i ⌝ }
+{
+    bodies::path_of(layout::body_at(s, l, record_table::PATH_KIND, i))
+}
+
+pub fn circulation_at(s: &[u8], l: Layout) -> records::Circulation
+    requires { ⌜ (readSheet (now s) ≡ Accepted l) × (0 < l .circulations) ⌝ }
+    ensures { λ r. ⌜ r ≡ circulation (contentOf (now (s .entry))) ⌝ }
+{
+    bodies::circulation_of(layout::body_at(s, l, record_table::CIRCULATION_KIND, 0))
 }

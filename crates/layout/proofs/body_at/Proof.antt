@@ -14,7 +14,7 @@ use Rattle.layout.proofs.body_at.Tie as tie
 ends : (c : tie.After-size-of) → c .before .first-of .result + c .size-of .result * c .before .before .before .args .i + c .size-of .result ≤ length (now (c .before .before .before .args .s))
 ends c =
     let p = c .before .before .before in
-    let e = within (p .args .l) (p .args .kind) (p .args .i) (p .pre .1) (p .pre .2) (p .pre .3) in
+    let e = within (p .args .l) (p .args .kind) (p .args .i) (p .pre .2) (p .pre .3) in
     omega (arith, rw (← c .before .first-of .ensures, ← c .size-of .ensures .0) at e)
 
 first-of-requires : tie.Need-first-of-requires

@@ -25,10 +25,16 @@ returns-6 : tie.Need-returns-6
 returns-6 c = search needs
 
 returns-7 : tie.Need-returns-7
-returns-7 c =
+returns-7 c = search needs
+
+returns-8 : tie.Need-returns-8
+returns-8 c = search needs
+
+returns-9 : tie.Need-returns-9
+returns-9 c =
     let n = c .match .rest in
     let a = c .before .args in
-    sym (another 0 (counts (a .l)) refl (a .kind) (n .0 .0 .0 .0 .0 .1) (n .0 .0 .0 .0 .1) (n .0 .0 .0 .1) (n .0 .0 .1) (n .0 .1) (n .1))
+    sym (another 0 (counts (a .l)) refl (a .kind) (n .0 .0 .0 .0 .0 .0 .0 .1) (n .0 .0 .0 .0 .0 .0 .1) (n .0 .0 .0 .0 .0 .1) (n .0 .0 .0 .0 .1) (n .0 .0 .0 .1) (n .0 .0 .1) (n .0 .1) (n .1))
 
 pub count-of-spec : {M : Type 1} → statement M
-count-of-spec = tie.close (tie.spec returns returns-2 returns-3 returns-4 returns-5 returns-6 returns-7)
+count-of-spec = tie.close (tie.spec returns returns-2 returns-3 returns-4 returns-5 returns-6 returns-7 returns-8 returns-9)

@@ -23,7 +23,7 @@ sum-next c =
 sum-most : (c : tie.After-count-of Inv-loop μ-loop) → firstOf (c .before .before .before .before .args .l) (c .before .before .before .loop .k + 1) ≤ extent (c .before .before .before .before .args .l)
 sum-most c =
     let i = c .before .before .before .loop in
-    first-most (c .before .before .before .before .args .l) (i .k) (i .inv .0) (omega arith)
+    first-most (c .before .before .before .before .args .l) (i .k) (omega arith)
 
 loop-holds : tie.Need-loop-holds Inv-loop μ-loop
 loop-holds c = (omega arith, c .pre .1, sym (first-one (c .args .l)))

@@ -5,11 +5,11 @@ use native.Mathlib.Omega.{arith}
 use borrow.Author.Needs.{needs}
 use denote.Ref.{now}
 use lib.ListN.{length}
-use Rattle.name_index.proofs.Table.{next-indexed}
+use Rattle.record_table.proofs.ByKind.{name-room}
 use Rattle.layout.specs.inner.Places.{firstOf}
-use Rattle.layout.specs.inner.Listed.{tableSize, runOf}
-use Rattle.layout.proofs.Names.{named-room, repeated-at}
-use Rattle.layout.proofs.Listed.{count-named, listed-next}
+use Rattle.layout.specs.inner.Listed.{tableSize}
+use Rattle.layout.proofs.Names.{repeated-at}
+use Rattle.layout.proofs.Listed.{names-named, listed-next}
 use Rattle.layout.proofs.repeated.Statement.{statement}
 use Rattle.layout.proofs.repeated.Tie as tie
 
@@ -17,7 +17,7 @@ use Rattle.layout.proofs.repeated.Tie as tie
 behind : (c : tie.After-size-of) →
     let a = c .before .before .before .before .args in
     a .at ≡ firstOf (a .l) (a .kind) + c .size-of .result * c .before .count-of .result
-behind c = rw (c .size-of .ensures .0, c .before .count-of .ensures) (c .before .before .before .before .pre .2)
+behind c = rw (c .size-of .ensures .0, c .before .count-of .ensures) (c .before .before .before .before .pre .3)
 
 begins : (c : tie.After-size-of) →
     let a = c .before .before .before .before .args in
@@ -45,7 +45,7 @@ named-of-requires c κs = search needs
 sub-base : tie.Need-sub-base
 sub-base c =
     let p = c .before .before .before .before .before in
-    omega (arith, c .named-of .ensures, c .before .before .count-of .ensures, count-named (p .args .l) (p .args .kind) (omega arith))
+    omega (arith, c .named-of .ensures, c .before .before .count-of .ensures, rw (p .pre .2) at (names-named (p .args .l) (p .args .kind) (p .pre .1)))
 
 add-seen-before : tie.Need-add-seen-before
 add-seen-before c = search needs
@@ -57,11 +57,11 @@ seen-before-requires c κs =
     let a = p .args in
     let n = b .before .before .count-of .ensures in
     let x = b .before .size-of .ensures .0 in
-    let m = count-named (a .l) (a .kind) (omega arith) in
-    let r = named-room (a .kind) (p .pre .0) (omega arith) in
-    let t = p .pre .5 in
+    let m = rw (p .pre .2) at (names-named (a .l) (a .kind) (p .pre .1)) in
+    let r = name-room (a .kind) (p .pre .2) in
+    let t = p .pre .6 in
     let e = t .full in
-    (omega (arith, behind (b .before)), omega (arith, x), omega (arith, b .named-of .ensures), omega (arith, b .named-of .ensures, n), rw (begins (b .before), x, n, b .named-of .ensures .0) (t .holds (omega arith)))
+    (omega (arith, behind (b .before)), omega (arith, x), omega (arith, b .named-of .ensures), omega (arith, b .named-of .ensures, n), rw (begins (b .before), x, n, b .named-of .ensures .0) (rw (p .pre .2) at (t .holds)))
 
 same-length : tie.Need-same-length
 same-length c = search needs
@@ -71,14 +71,12 @@ returns c =
     let b = c .before .before .before .before in
     let p = b .before .before .before .before .before in
     let a = p .args in
-    let f : length (now (a .table)) ≡ tableSize = p .pre .5 .full in
+    let f : length (now (a .table)) ≡ tableSize = p .pre .6 .full in
     let e = rw (begins (b .before), b .before .size-of .ensures .0, b .before .before .count-of .ensures, b .named-of .ensures .0) at (c .before .before .seen-before .ensures) in
-    let n = b .before .before .count-of .ensures in
-    let m = count-named (a .l) (a .kind) (omega arith) in (
-      e .0 ∙ repeated-at (now (a .s)) (a .l) (a .kind) (a .at + 1) (p .pre .0) (omega arith),
-      listed-next (now (a .s)) (a .l) (a .kind) _ (p .pre .0) (omega arith) (search (needs, f))
-          (rw (e .1) (next-indexed (now (a .s)) (runOf (a .l) (a .kind)) (now (a .table)) (p .pre .5 .holds (omega arith)) (omega (arith, b .named-of .ensures, n)))),
-      e .1,
+    let k = p .pre .2 in (
+      e .0 ∙ repeated-at (now (a .s)) (a .l) (a .kind) (a .at + 1) (p .pre .0) (p .pre .1) k,
+      listed-next (now (a .s)) (a .l) (a .kind) _ (p .pre .0) (p .pre .1) (now (a .table)) k (p .pre .6) (omega (arith, b .named-of .ensures)) (rw k (e .1)) (search (needs, f)),
+      rw k (e .1),
     )
 
 pub repeated-spec : {M : Type 1} → statement M

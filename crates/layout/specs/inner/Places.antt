@@ -5,9 +5,9 @@ use mathlib.Core.List.{List, [], _∷_}
 use lib.Dec.{eqb}
 use lib.ListN.{drop}
 use Rattle.fields.specs.Lists.{tab}
-use Rattle.record_table.specs.Table.{byKind, headKind, lastKind, bodyIn}
+use Rattle.record_table.specs.Table.{byKind, headKind, pathKind, circulationKind, lastKind, bodyIn}
 use Rattle.record_table.specs.inner.Sizes.{size}
-use Rattle.records.specs.Bodies.{headOf, zoneOf, unitOf, pointOf, parOf, factorOf}
+use Rattle.records.specs.Bodies.{headOf, zoneOf, unitOf, pointOf, parOf, factorOf, pathOf, circulationOf}
 use Rattle.records.specs.Content.{Content}
 use Rattle.due_factors.specs.declared.Counts.{Counts}
 use Rattle.due_factors.specs.declared.Due.{Due}
@@ -20,11 +20,11 @@ one true = 1
 one false = 0
 
 abbrev pub noRecords : Layout
-noRecords = record { heads = 0; zones = 0; units = 0; points = 0; pars = 0; factors = 0 }
+noRecords = record { heads = 0; zones = 0; units = 0; points = 0; pars = 0; factors = 0; paths = 0; circulations = 0 }
 
 -- how many there are of a kind
 abbrev pub counts : Layout → List ℕ
-counts l = l .heads ∷ l .zones ∷ l .units ∷ l .points ∷ l .pars ∷ l .factors ∷ []
+counts l = l .heads ∷ l .zones ∷ l .units ∷ l .points ∷ l .pars ∷ l .factors ∷ l .paths ∷ l .circulations ∷ []
 
 abbrev pub count : Layout → ℕ → ℕ
 count l kind = byKind kind 0 (counts l)
@@ -40,6 +40,8 @@ dueOf l = dueList (countsIn l)
 pub record Allowed (l : Layout) : Type 0 where
   pub heads : l .heads ≤ headKind .most
   pub few : Few (countsIn l)
+  pub paths : l .paths ≤ pathKind .most
+  pub circulations : l .circulations ≤ circulationKind .most
 
 -- one more of a kind
 unfoldable pub counted : Layout → ℕ → Layout
@@ -50,6 +52,8 @@ counted l kind = record {
   points = l .points + one (eqb kind 4);
   pars = l .pars + one (eqb kind 5);
   factors = l .factors + one (eqb kind 6);
+  paths = l .paths + one (eqb kind 7);
+  circulations = l .circulations + one (eqb kind 8);
 }
 
 -- where the records of a kind begin: kinds never fall along the sheet, so behind all records of the kinds below
@@ -78,4 +82,6 @@ contentAt s l = record {
   points = tab (λ i. pointOf (bodyAt s l 4 i)) (l .points);
   pars = tab (λ i. parOf (bodyAt s l 5 i)) (l .pars);
   factors = tab (λ i. factorOf (bodyAt s l 6 i)) (l .factors);
+  paths = tab (λ i. pathOf (bodyAt s l 7 i)) (l .paths);
+  circulations = tab (λ i. circulationOf (bodyAt s l 8 i)) (l .circulations);
 }

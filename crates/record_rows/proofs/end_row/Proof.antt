@@ -13,9 +13,12 @@ row-requires c κs = search needs
 row-requires-2 : tie.Need-row-requires-2
 row-requires-2 c κs = search needs
 
+row-requires-3 : tie.Need-row-requires-3
+row-requires-3 c κs = search needs
+
 returns : tie.Need-returns
 unfolding endRow
-returns c = rw (c .row2 .ensures, c .before .row .ensures, c .before .before .due-count .ensures)
+returns c = rw (c .row3 .ensures, c .before .row2 .ensures, c .before .before .row .ensures, c .before .before .before .due-count .ensures)
 
 pub end-row-spec : {M : Type 1} → statement M
-end-row-spec = tie.close (tie.spec due-count-requires row-requires row-requires-2 returns)
+end-row-spec = tie.close (tie.spec due-count-requires row-requires row-requires-2 row-requires-3 returns)

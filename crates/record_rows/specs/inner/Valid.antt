@@ -1,4 +1,4 @@
--- What rows 1 to 13 leave of a sheet's content: every number in its range, every count within its limit, every factor due there.
+-- What rows 1 to 13 and 28 leave of a sheet's content: every number in its range, every count within its limit, every factor due there.
 use Prim.Native.Nat.{ℕ, _+_, _≤_, _<_}
 use mathlib.Core.Path.{_≡_}
 use mathlib.Core.Bool.{true, false}
@@ -13,8 +13,10 @@ use Rattle.records.specs.declared.Unit.{Unit}
 use Rattle.records.specs.declared.Place.the-variants.{Line}
 use Rattle.records.specs.declared.Point.{Point}
 use Rattle.records.specs.declared.Par.{Par}
+use Rattle.records.specs.declared.Path.{Path}
+use Rattle.records.specs.declared.Circulation.{Circulation}
 use Rattle.record_table.specs.Table.{headKind, zoneKind, unitKind, pointKind, parKind}
-use Rattle.records.specs.Content.{Content, noName, head, zone, unit, point, par, factorFor}
+use Rattle.records.specs.Content.{Content, noName, head, zone, unit, point, par, path, circulation, factorFor}
 
 pub record HeadFits (h : Head) : Type 0 where
   pub rto-least : 1 ≤ h .«monitoring_rto»
@@ -53,6 +55,18 @@ pub record ParFits (p : Par) : Type 0 where
   pub actual : natAbs (p .actual) ≤ 200000
   pub target : natAbs (p .target) ≤ 200000
 
+pub record PathFits (p : Path) : Type 0 where
+  pub flow : natAbs (p .flow) ≤ 200000
+  pub factor : natAbs (p .factor) ≤ 10000
+
+pub record CirculationFits (c : Circulation) : Type 0 where
+  pub flow : natAbs (c .flow) ≤ 200000
+
+-- four paths and one circulation, or neither
+pub data Lake (paths circulations : ℕ) : Type 0 where
+  none : paths ≡ 0 → circulations ≡ 0 → Lake paths circulations
+  all : paths ≡ 4 → circulations ≡ 1 → Lake paths circulations
+
 pub record Valid (c : Content) : Type 0 where
   pub heads : length (c .heads) ≡ headKind .most
   pub zones-least : 1 ≤ length (c .zones)
@@ -62,11 +76,14 @@ pub record Valid (c : Content) : Type 0 where
   pub points-most : length (c .points) ≤ pointKind .most
   pub pars-most : length (c .pars) ≤ parKind .most
   pub factors : length (c .factors) ≡ length (due c)
+  pub lake : Lake (length (c .paths)) (length (c .circulations))
   pub head-fits : HeadFits (head c)
   pub zone-fits : (i : ℕ) → i < length (c .zones) → ZoneFits (zone c i)
   pub unit-fits : (i : ℕ) → i < length (c .units) → UnitFits (length (c .zones)) (unit c i)
   pub point-fits : (i : ℕ) → i < length (c .points) → PointFits (length (c .zones)) (point c i)
   pub par-fits : (i : ℕ) → i < length (c .pars) → ParFits (par c i)
+  pub path-fits : (i : ℕ) → i < length (c .paths) → PathFits (path c i)
+  pub circulation-fits : 0 < length (c .circulations) → CirculationFits (circulation c)
   pub factor-fits : (target subject i : ℕ) → Asked (length (c .zones)) (length (c .units)) (length (c .points)) (length (c .pars)) target subject i →
       natAbs (factorFor (c .factors) target subject (i + 1)) ≤ 10000
 

@@ -6,7 +6,7 @@ use native.Mathlib.Omega.{arith}
 use denote.Ref.{now}
 use Rattle.names.specs.Names.{nameOk, nameAt}
 use Rattle.records.specs.Bodies.{headOf, zoneOf, unitOf, pointOf, parOf}
-use Rattle.layout.proofs.Names.{named-room}
+use Rattle.record_table.proofs.ByKind.{name-room, named-kind}
 use Rattle.record_rows.specs.Rows.{bodyRow}
 use Rattle.sheet.proofs.named_row.Statement.{statement}
 use Rattle.sheet.proofs.named_row.Tie as tie
@@ -22,7 +22,10 @@ is-par c =
     fifth _ (p .0) (p .1) (n .0 .0 .0 .1) (n .0 .0 .1) (n .0 .1) (n .1)
 
 name-ok-at-requires : tie.Need-name-ok-at-requires
-name-ok-at-requires c κs = let p = c .before .pre in omega (arith, named-room _ (p .0) (p .1), p .2)
+name-ok-at-requires c κs =
+    let p = c .before in
+    let n = named-kind (p .args .kind) (p .pre .0) (omega arith) (λ e. omega arith) (λ e. omega arith) in
+    omega (arith, name-room (p .args .kind) n, p .pre .2)
 
 well : (c : tie.After-name-ok-at) → c .name-ok-at .result ≡ nameOk (nameAt (now (c .before .before .args .b)) 0)
 well c = c .name-ok-at .ensures

@@ -16,7 +16,7 @@ use Rattle.layout.specs.inner.Places.{countsIn, dueOf, contentAt}
 use Rattle.sheet.specs.inner.Passed.{Passed}
 use Rattle.sheet.specs.inner.GoodFactors.{withFactors}
 use Rattle.sheet.proofs.Passing.{passed-within, at-allowed}
-use Rattle.sheet.proofs.FactorRuns.{run-passed}
+use Rattle.sheet.proofs.FactorRuns.{listed-factors, run-passed}
 use Rattle.sheet.proofs.past_factors.Statement.{statement}
 use Rattle.sheet.proofs.past_factors.Tie as tie
 
@@ -119,7 +119,7 @@ returns-3 : tie.Need-returns-3
 returns-3 c =
     let g = c .before in
     let l = g .before .before .before .before .before .before .before .before .if1 .left in
-    (omega arith, behind g, λ table t. record { full = t .full; holds = λ h. absurd (omega (arith, l)) })
+    (omega arith, behind g, λ table t. rw l (listed-factors _ _ (g .good-factors .result) table (rw l at t)))
 
 pub past-factors-spec : {M : Type 1} → statement M
 past-factors-spec =

@@ -9,6 +9,7 @@ use borrow.Author.Needs.{needs}
 use denote.Ref.{now}
 use Rattle.fields.specs.Fields.{byteAt}
 use Rattle.records.specs.Content.{countOf}
+use Rattle.record_table.proofs.ByKind.{named-kind}
 use Rattle.record_rows.specs.Rows.{recordRow}
 use Rattle.record_rows.proofs.FrontRows.{Fronted, front-pass, front-split}
 use Rattle.layout.specs.inner.Places.{contentAt}
@@ -16,7 +17,7 @@ use Rattle.fields.proofs.Lists.{tail-is}
 use Rattle.layout.proofs.Contents.{count-at, zones-at}
 use Rattle.layout.proofs.Laid.{laid-at}
 use Rattle.layout.proofs.Listed.{listed-at}
-use Rattle.sheet.proofs.Passing.{passed-last, record-factor, at-laid, at-allowed}
+use Rattle.sheet.proofs.Passing.{record-factor, at-laid, at-allowed, at-listed}
 use Rattle.sheet.proofs.record_row.Statement.{statement}
 use Rattle.sheet.proofs.record_row.Tie as tie
 
@@ -59,8 +60,8 @@ returns c =
     let a = p .args in
     let s = now (a .s) in
     let e = rw (tail-is s (a .at + 1)) at (c .factor-row .ensures) in
-    let t = p .pre .2 in
-    (e ∙ sym (record-factor s (a .l) (a .last) _ (drop (a .at + 1) s) (k .if1 .taken) (passed-last s (p .pre .0))), λ q. record { full = t .full; holds = λ h. absurd (omega (arith, k .if1 .taken)) })
+    let f = e ∙ sym (record-factor s (a .l) (a .last) _ (drop (a .at + 1) s) (k .if1 .taken) (p .pre .3)) in
+    record { is = f; listed = λ q. at-listed s (a .at) (a .last) (a .l) (p .pre .0) _ (p .pre .1) (sym f ∙ q) (rw (k .if1 .taken)) (p .pre .2) }
 
 count-of-requires : tie.Need-count-of-requires
 count-of-requires c κs = search needs
@@ -77,7 +78,10 @@ returns-2 c =
     let n = c .before .before in
     let a = n .before .before .before .before .before .args in
     let s = now (a .s) in
-    (rw (earlier n, length-drop (a .at + 1) s, front-split, ← c .before .front-row .ensures, ne-eqb _ _ (c .if2 .taken)), λ e. absurd (c .if2 .taken e))
+    record {
+      is = rw (earlier n, length-drop (a .at + 1) s, front-split, ← c .before .front-row .ensures, ne-eqb _ _ (c .if2 .taken));
+      listed = λ e. absurd (c .if2 .taken e);
+    }
 
 repeated-requires : tie.Need-repeated-requires
 repeated-requires c κs =
@@ -86,8 +90,8 @@ repeated-requires c κs =
     let a = p .args in
     let f = passes (c .before) in
     let v = at-laid _ _ _ _ (p .pre .0) in
-    let n = k .if1 .left in
-    (f .low, omega (arith, n, f .high), laid-at (a .l) _ (a .at) _ v (f .low) (f .high) (f .order), omega (arith, f .fits), at-allowed _ _ _ _ (p .pre .0), listed-at _ (a .l) _ _ (a .last) (a .at) v (f .order) (f .high) (p .pre .2))
+    let n = named-kind _ (f .low) (f .high) (k .if1 .left) (λ e. omega (arith, p .pre .4)) in
+    (f .low, f .high, n, laid-at (a .l) _ (a .at) _ v (f .low) (f .high) (f .order), omega (arith, f .fits), at-allowed _ _ _ _ (p .pre .0), listed-at _ (a .l) _ _ (a .last) (a .at) v (f .order) (f .high) (p .pre .2))
 
 body-length-requires : tie.Need-body-length-requires
 body-length-requires c κs = search needs
@@ -108,8 +112,8 @@ named-row-requires : tie.Need-named-row-requires
 named-row-requires c κs =
     let e = c .before .before .before .before .before .before in
     let f = passes e in
-    let n = e .before .before .before .if1 .left in
-    (f .low, omega (arith, n, f .high), simp (length-take, length-drop) (omega (arith, f .fits, c .before .body-length .ensures)))
+    let k = e .before .before .before in
+    (f .low, omega (arith, k .if1 .left, k .before .before .before .before .pre .4), simp (length-take, length-drop) (omega (arith, f .fits, c .before .body-length .ensures)))
 
 same-length : tie.Need-same-length
 same-length c = search needs
@@ -122,11 +126,12 @@ returns-3 c =
     let g = r .before .before .before in
     let a = g .before .before .before .before .before .before .args in
     let s = now (a .s) in
-    let e = simp add-sub-cancel-left at (c .named-row .ensures (contentAt s (a .l)) (zones-at s (a .l))) in (
-      rw (earlier (g .before), length-drop (a .at + 1) s, front-split, ← g .front-row .ensures, eq-eqb _ _ (r .before .before .if2 .left))
-          (rw (b .body-length .ensures, r .repeated .ensures .0) at e),
-      λ q. r .repeated .ensures .1,
-    )
+    let e = simp add-sub-cancel-left at (c .named-row .ensures (contentAt s (a .l)) (zones-at s (a .l))) in
+    record {
+      is = rw (earlier (g .before), length-drop (a .at + 1) s, front-split, ← g .front-row .ensures, eq-eqb _ _ (r .before .before .if2 .left))
+          (rw (b .body-length .ensures, r .repeated .ensures .0) at e);
+      listed = λ q. r .repeated .ensures .1;
+    }
 
 pub record-row-spec : {M : Type 1} → statement M
 record-row-spec =

@@ -25,7 +25,7 @@ pub record Good (s : List ℕ) (at key : ℕ) : Type 0 where
 
 -- r factors more
 abbrev pub withFactors : Layout → ℕ → Layout
-withFactors l r = record { heads = l .heads; zones = l .zones; units = l .units; points = l .points; pars = l .pars; factors = l .factors + r }
+withFactors l r = record { heads = l .heads; zones = l .zones; units = l .units; points = l .points; pars = l .pars; factors = l .factors + r; paths = l .paths; circulations = l .circulations }
 
 abbrev pub lesser : ℕ → ℕ → ℕ
 lesser a b = cond (ltb a b) a b

@@ -25,7 +25,7 @@ pub record Accepts (s : List ℕ) (c : Content) : Type 0 where
   pub passed : Passed s (length s) last c
   pub end : lastRow c ≡ 0
 
--- of rows 2 to 13
+-- of rows 2 to 13 and 28
 pub record Refuses (s : List ℕ) (number at : ℕ) : Type 0 where
   pub last : ℕ
   pub content : Content
