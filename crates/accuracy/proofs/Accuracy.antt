@@ -1,5 +1,5 @@
--- The accuracy rule, proved: every content that passes rows 1 to 13 and 16 to 21 is accurate.
-use Prim.Native.Nat.{ℕ, zero, suc, _+_, _<_}
+-- The accuracy rule, proved: every content that passes rows 1 to 13, 28 and 16 to 21 is accurate.
+use Prim.Native.Nat.{ℕ, zero, suc, _+_, _<_, _≤_}
 use native.Mathlib.Omega.{arith}
 use mathlib.Core.Path.{_≡_, refl, ap}
 use mathlib.Core.Bool.{Bool, true, false, cond}
@@ -8,7 +8,7 @@ use borrow.Author.Tests.{eqb-true}
 use lib.Dec.{eqb}
 use lib.IntN.{ℤ, pos, natAbs, _+ℤ_, _-ℤ_, _*ℤ_, *ℤ-comm}
 use lib.ListN.{length}
-use lib.Signed.{_≤ℤ_, _<ℤ_, ≤ℤ-refl}
+use lib.Signed.{_≤ℤ_, _<ℤ_, leZ, ≤ℤ-refl}
 use Rattle.integers.specs.Sum.{sumTo}
 use Rattle.integers.proofs.Parts.{le-of}
 use Rattle.integers.proofs.Linear.{zarith}
@@ -23,13 +23,15 @@ use Rattle.records.specs.Content.{Content, head, par}
 use Rattle.record_rows.specs.inner.Valid.{Valid}
 use Rattle.figures.specs.Balance.{netLoad, netGeneration, finalGeneration, grossOutput, balanceRow}
 use Rattle.figures.specs.Flow.{weightedOutput, weightedLoad, firstDividend, loadShare, firstRemainder, grossFlow, secondDividend, generationToLoad, secondRemainder, parallel, shadow, parFactor, control, carriedTerm, carriedSum, carried, redirect, nyisoMonitors, nonCommonRedirect, marketFlow}
+use Rattle.figures.specs.Lake.{hasPaths, pathSum, impact, adjustedFlow, middle, settlementFlow}
 use Rattle.figures.specs.Payment.{inWatts, difference, amountOf, amount}
 use Rattle.figures.proofs.Balanced.{net-load-above, net-generation-above, final-generation-least, final-generation-most}
 use Rattle.figures.proofs.Factors.{par-factor-within}
-use Rattle.accuracy.specs.Fraction.{Fraction, entire, _⊕_, _⊖_, _⊗_, _⊘_, half, Equals, Near}
-use Rattle.accuracy.specs.Exact.{exactGenerationToLoad, exactCarriedTerm, exactRedirect, exactNonCommonRedirect, exactMarketFlow, exactDifference, exactAmountOf, exactAmount}
-use Rattle.accuracy.specs.Accurate.{flowBound, marketBound, amountBound, Accurate}
-use Rattle.accuracy.proofs.FractionLaws.{_≼_, near-self, near-minus, near-wide, near-times, near-rounded, near-more, near-less, near-sum, entire-above}
+use Rattle.accuracy.specs.Fraction.{Fraction, entire, _⊕_, _⊖_, _⊗_, _⊘_, half, atMost, Equals, Near}
+use Rattle.accuracy.specs.Exact.{exactGenerationToLoad, exactCarriedTerm, exactRedirect, exactNonCommonRedirect, exactMarketFlow, exactImpact, exactAdjustedFlow, exactSettlementFlow, exactDifference, exactAmountOf, exactAmount}
+use Rattle.accuracy.specs.Accurate.{flowBound, marketBound, settlementBound, amountBound, Accurate}
+use Rattle.accuracy.proofs.FractionLaws.{_≼_, near-self, near-plus, near-minus, near-wide, near-times, near-rounded, near-more, near-less, near-sum, entire-above}
+use Rattle.accuracy.proofs.MiddleLaws.{near-middle}
 use Rattle.accuracy.proofs.PaymentLaws.{near-pay}
 
 -- a number that is not negative is its own size
@@ -111,6 +113,15 @@ unfolding sumTo
 weights c zero = record { le = tt }
 weights c (suc n) = weights-step n (sumTo (weight c common) n) (sumTo (weight c noncommon) n) (weight c common n) (weight c noncommon n) (weights c n) (weight-both c n)
 
+-- p + 2 and the impact's 1/2 are at most p + 3
+entire-rise : (m n : ℕ) → m ≤ n → entire (pos m) ≼ entire (pos n)
+unfolding entire
+entire-rise m n h = record { most = le-of _ _ (omega arith) }
+
+adjusted-most : (p : ℕ) → entire (pos (p + 2)) ⊕ (entire (pos 0) ⊘ pos 4 ⊕ half) ≼ entire (pos (p + 3))
+unfolding entire _⊕_ _⊘_ half
+adjusted-most p = record { most = le-of _ _ (omega arith) }
+
 -- an amount, for any difference that is within k of the exact one
 pub amount-of-close : (h : Head) (k : ℤ) {d : ℤ} {f : Fraction} → Near d f (entire k) → Near (amountOf h d) (exactAmountOf h f) (amountBound h k)
 unfolding amountOf exactAmountOf amountBound entire _⊗_
@@ -175,9 +186,26 @@ module _ (c : Content) (v : Valid c) (e : balanceRow c ≡ 0) where
       near-wide (entire-above (marketBound c)) (market-most c _ _ (weights c (length (c .pars))))
       (near-minus (near-minus (near-more (shadow c 0) (near-more (parallel c 0) (flow-close 0))) (redirect-close common)) non-common-close)
 
-  pub difference-close : (entitlement : ℤ) → Near (difference c entitlement) (exactDifference c entitlement) (entire (marketBound c))
+  adjusted-close : Near (adjustedFlow c) (exactAdjustedFlow c) (entire (marketBound c) ⊕ (entire (pos 0) ⊘ pos 4 ⊕ half))
+  unfolding adjustedFlow exactAdjustedFlow impact exactImpact
+  adjusted-close = near-plus market-close (near-rounded (record { lt = tt }) (near-self (pathSum c)))
+
+  pub settled-close : (watts : ℤ) → Near (settlementFlow c watts) (exactSettlementFlow c watts) (entire (settlementBound c))
+  unfolding settlementFlow exactSettlementFlow settlementBound marketBound
+  settled-close watts = by (hasPaths c)
+    where
+      by : (b : Bool) → Near (cond b (middle leZ (marketFlow c) (adjustedFlow c) watts) (marketFlow c))
+          (cond b (middle atMost (exactMarketFlow c) (exactAdjustedFlow c) (entire watts)) (exactMarketFlow c)) (entire (cond b (pos (length (c .pars) + 3)) (marketBound c)))
+      by true =
+          let p = length (c .pars) in
+          let above = entire-above (pos (p + 3)) in
+          near-middle (near-wide above (entire-rise (p + 2) (p + 3) (omega arith)) market-close) (near-wide above (adjusted-most p) adjusted-close)
+          (near-wide above (entire-rise 0 (p + 3) (omega arith)) (near-self watts))
+      by false = market-close
+
+  pub difference-close : (entitlement : ℤ) → Near (difference c entitlement) (exactDifference c entitlement) (entire (settlementBound c))
   unfolding difference exactDifference
-  difference-close entitlement = near-less (inWatts entitlement) market-close
+  difference-close entitlement = near-less (inWatts entitlement) (settled-close (inWatts entitlement))
 
   pub accurate : (entitlement : ℤ) → Accurate c entitlement
   unfolding amount exactAmount
@@ -185,6 +213,7 @@ module _ (c : Content) (v : Valid c) (e : balanceRow c ≡ 0) where
     flow-exact = λ target l. flow-iff target;
     flow-near = λ target l. flow-close target;
     market-near = market-close;
+    settled-near = settled-close (inWatts entitlement);
     difference-above = difference-close entitlement .above;
-    amount-near = amount-of-close (head c) (marketBound c) (difference-close entitlement);
+    amount-near = amount-of-close (head c) (settlementBound c) (difference-close entitlement);
   }

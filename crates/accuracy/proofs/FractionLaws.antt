@@ -48,14 +48,14 @@ size-times a (pos n) h = ap pos (abs-mul a (pos n))
 size-times a (negsuc n) h = absurd (h .le)
 
 -- a distance, multiplied out by a number k that is not negative
-spread : {x k : ℤ} {f b : Fraction} → pos 0 ≤ℤ k → Near x f b →
+pub spread : {x k : ℤ} {f b : Fraction} → pos 0 ≤ℤ k → Near x f b →
     pos (natAbs ((x *ℤ f .denominator -ℤ f .numerator) *ℤ b .denominator *ℤ k)) ≤ℤ (k *ℤ (b .numerator *ℤ f .denominator))
 spread {x} {k} {f} {b} g h =
     let a = x *ℤ f .denominator -ℤ f .numerator in
     rw (size-times (a *ℤ b .denominator) k g ∙ *ℤ-comm _ k ∙ ap (λ z. k *ℤ z) (size-times a (b .denominator) (lt-le (h .bound)))) (le-mul g (h .apart))
 
 -- and put together again
-gather : {x : ℤ} {f b : Fraction} → pos 0 <ℤ f .denominator → pos 0 <ℤ b .denominator →
+pub gather : {x : ℤ} {f b : Fraction} → pos 0 <ℤ f .denominator → pos 0 <ℤ b .denominator →
     pos (natAbs ((x *ℤ f .denominator -ℤ f .numerator) *ℤ b .denominator)) ≤ℤ (b .numerator *ℤ f .denominator) → Near x f b
 gather {x} {f} {b} p q h = record { above = p; bound = q; apart = rw (size-times (x *ℤ f .denominator -ℤ f .numerator) (b .denominator) (lt-le q)) at h }
 

@@ -1,4 +1,5 @@
 pub mod FractionLaws
+pub mod MiddleLaws
 pub mod PaymentLaws
 pub mod Accuracy
 pub mod Examples

@@ -2,6 +2,7 @@
 use Prim.Native.Nat.{ℕ, _+_, _≤_, max}
 use mathlib.Core.Path.{_≡_}
 use mathlib.Core.Logic.{_↔_}
+use mathlib.Core.Bool.{cond}
 use lib.IntN.{ℤ, pos, _*ℤ_}
 use lib.ListN.{length}
 use lib.Signed.{_<ℤ_}
@@ -9,9 +10,10 @@ use Rattle.records.specs.declared.Head.{Head}
 use Rattle.records.specs.Content.{Content, head}
 use Rattle.figures.specs.Balance.{netLoad, finalGeneration}
 use Rattle.figures.specs.Flow.{generationToLoad, firstRemainder, secondRemainder, marketFlow}
-use Rattle.figures.specs.Payment.{amount}
+use Rattle.figures.specs.Lake.{hasPaths, settlementFlow}
+use Rattle.figures.specs.Payment.{inWatts, amount}
 use Rattle.accuracy.specs.Fraction.{Fraction, entire, _⊕_, _⊘_, half, Equals, Near}
-use Rattle.accuracy.specs.Exact.{exactGenerationToLoad, exactMarketFlow, exactDifference, exactAmount}
+use Rattle.accuracy.specs.Exact.{exactGenerationToLoad, exactMarketFlow, exactSettlementFlow, exactDifference, exactAmount}
 
 -- Bounds, in watts: 1 for a generation-to-load flow, p + 2 for the market flow, with p the sheet's PARs of both classes
 unfoldable pub flowBound : ℤ
@@ -19,6 +21,10 @@ flowBound = pos 1
 
 unfoldable pub marketBound : Content → ℤ
 marketBound c = pos (length (c .pars) + 2)
+
+-- p + 3 for the settlement flow of a sheet with paths (document 02, request 6); without, it is the market flow
+unfoldable pub settlementBound : Content → ℤ
+settlementBound c = cond (hasPaths c) (pos (length (c .pars) + 3)) (marketBound c)
 
 -- the larger of the head's two prices, whichever was taken
 unfoldable pub dearerPrice : Head → ℤ
@@ -34,6 +40,7 @@ pub record Accurate (c : Content) (entitlement : ℤ) : Type 0 where
       Equals (generationToLoad c target) (exactGenerationToLoad c target) ↔ netLoad c *ℤ secondRemainder c target ≡ finalGeneration c *ℤ firstRemainder c target
   pub flow-near : (target : ℕ) → target ≤ length (c .pars) → Near (generationToLoad c target) (exactGenerationToLoad c target) (entire flowBound)
   pub market-near : Near (marketFlow c) (exactMarketFlow c) (entire (marketBound c))
+  pub settled-near : Near (settlementFlow c (inWatts entitlement)) (exactSettlementFlow c (inWatts entitlement)) (entire (settlementBound c))
   -- `exactPrice` goes by the numerator's sign, which is the exact difference's own only where the denominator is above zero
   pub difference-above : pos 0 <ℤ exactDifference c entitlement .denominator
-  pub amount-near : Near (amount c entitlement) (exactAmount c entitlement) (amountBound (head c) (marketBound c))
+  pub amount-near : Near (amount c entitlement) (exactAmount c entitlement) (amountBound (head c) (settlementBound c))

@@ -1,4 +1,4 @@
--- Document 01, 'From balance to flow' and 'The payment', with no rounding anywhere. Only whole sums of the sheet occur here.
+-- Document 01, 'From balance to flow' and 'The payment', and document 02, request 6, with no rounding anywhere. Only whole sums of the sheet occur here.
 use Prim.Native.Nat.{ℕ, _+_}
 use mathlib.Core.Bool.{cond}
 use lib.Dec.{eqb}
@@ -9,8 +9,9 @@ use Rattle.records.specs.Codes.{common, noncommon}
 use Rattle.records.specs.Content.{Content, head, par}
 use Rattle.figures.specs.Balance.{netLoad, netGeneration, finalGeneration, grossOutput}
 use Rattle.figures.specs.Flow.{weightedOutput, weightedLoad, parallel, shadow, parFactor, control, nyisoMonitors}
+use Rattle.figures.specs.Lake.{hasPaths, pathSum, middle}
 use Rattle.figures.specs.Payment.{inWatts, price}
-use Rattle.accuracy.specs.Fraction.{Fraction, entire, _⊕_, _⊖_, _⊗_, _⊘_, sumOf}
+use Rattle.accuracy.specs.Fraction.{Fraction, entire, _⊕_, _⊖_, _⊗_, _⊘_, sumOf, atMost}
 
 -- (10 × A − 10 × G × N / net load) × final generation / net generation
 unfoldable pub exactGenerationToLoad : Content → ℕ → Fraction
@@ -33,8 +34,18 @@ exactNonCommonRedirect c = cond (nyisoMonitors c) (entire (pos 0)) (exactRedirec
 unfoldable pub exactMarketFlow : Content → Fraction
 exactMarketFlow c = exactGenerationToLoad c 0 ⊕ entire (parallel c 0) ⊕ entire (shadow c 0) ⊖ exactRedirect c common ⊖ exactNonCommonRedirect c
 
+-- document 02, request 6
+unfoldable pub exactImpact : Content → Fraction
+exactImpact c = entire (pathSum c) ⊘ pos 4
+
+unfoldable pub exactAdjustedFlow : Content → Fraction
+exactAdjustedFlow c = exactMarketFlow c ⊕ exactImpact c
+
+unfoldable pub exactSettlementFlow : Content → ℤ → Fraction
+exactSettlementFlow c watts = cond (hasPaths c) (middle atMost (exactMarketFlow c) (exactAdjustedFlow c) (entire watts)) (exactMarketFlow c)
+
 unfoldable pub exactDifference : Content → ℤ → Fraction
-exactDifference c entitlement = exactMarketFlow c ⊖ entire (inWatts entitlement)
+exactDifference c entitlement = exactSettlementFlow c (inWatts entitlement) ⊖ entire (inWatts entitlement)
 
 -- the exact difference's own sign decides: with a denominator above zero it is the numerator's
 unfoldable pub exactPrice : Head → Fraction → ℤ

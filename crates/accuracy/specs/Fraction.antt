@@ -2,7 +2,8 @@
 use Prim.Native.Nat.{ℕ, zero, suc}
 use mathlib.Core.Path.{_≡_}
 use lib.IntN.{ℤ, pos, natAbs, _+ℤ_, _-ℤ_, _*ℤ_}
-use lib.Signed.{_≤ℤ_, _<ℤ_}
+use mathlib.Core.Bool.{Bool}
+use lib.Signed.{_≤ℤ_, _<ℤ_, leZ}
 
 -- a whole numerator over a whole denominator, which is above zero wherever `Equals` or `Near` speaks of the fraction
 pub record Fraction : Type 0 where
@@ -35,6 +36,10 @@ half = entire (pos 1) ⊘ pos 2
 unfoldable pub sumOf : (ℕ → Fraction) → ℕ → Fraction
 sumOf f zero = entire (pos 0)
 sumOf f (suc n) = sumOf f n ⊕ f n
+
+-- whether f is at most g; both denominators are above zero
+unfoldable pub atMost : Fraction → Fraction → Bool
+atMost f g = leZ (f .numerator *ℤ g .denominator) (g .numerator *ℤ f .denominator)
 
 -- the whole number x is f
 pub record Equals (x : ℤ) (f : Fraction) : Type 0 where

@@ -1,21 +1,23 @@
--- Sheet S passes rows 1 to 13 and 16 to 22: what is proved of accepted sheets speaks of something.
+-- Sheet S, without paths and with them, passes rows 1 to 13, 28 and 16 to 22: what is proved of accepted sheets speaks of something.
 use Prim.Native.Nat.{ℕ, zero, suc, _≤_, _<_}
 use native.Mathlib.Omega.{arith}
 use mathlib.Core.Path.{_≡_, refl}
 use mathlib.Core.Bool.{Bool, true, false, cond}
 use mathlib.Core.List.{List, [], _∷_}
 use lib.Dec.{lit≤}
-use lib.IntN.{natAbs}
+use lib.IntN.{pos, natAbs}
 use lib.ListN.{length, getD}
 use Rattle.fields.specs.Lists.{tab}
 use Rattle.due_factors.specs.Due.{each, flowgate, perPar, dueList, due}
 use Rattle.records.specs.declared.Place.the-variants.{Proxy, Line}
 use Rattle.records.specs.declared.Factor.{Factor}
-use Rattle.records.specs.Content.{Content, head, noZone, noUnit, noPoint, noPar, bears, factorFor}
-use Rattle.record_rows.specs.inner.Valid.{HeadFits, ZoneFits, UnitFits, LineFits, PointFits, ParFits, Valid}
+use Rattle.records.specs.Content.{Content, head, noZone, noUnit, noPoint, noPar, noPath, noCirculation, bears, factorFor}
+use Rattle.record_rows.specs.inner.Valid.{HeadFits, ZoneFits, UnitFits, LineFits, PointFits, ParFits, PathFits, CirculationFits, Lake, none, all, Valid}
 use Rattle.figures.specs.Balance.{balanceRow}
-use Rattle.figures.specs.Flow.{marketFlow, flowRow}
-use Rattle.figures.proofs.Examples.{printed, refused, sheetS}
+use Rattle.figures.specs.Flow.{flowRow}
+use Rattle.figures.specs.Lake.{settlementFlow}
+use Rattle.figures.specs.Payment.{inWatts}
+use Rattle.figures.proofs.Examples.{printed, refused, sheetS, lowered}
 
 -- what holds of every element holds at every index
 abbrev pub All : {A : Type 0} → (A → Type 0) → List A → Type 0
@@ -52,7 +54,7 @@ unfoldable pub dueCount : Content → ℕ
 unfolding tab each flowgate perPar dueList
 dueCount c = length (due c)
 
--- what passes rows 1 to 13, from a test of each record
+-- what passes rows 1 to 13 and 28, from a test of each record
 pub record Tested (c : Content) : Type 0 where
   pub heads : length (c .heads) ≡ 1
   pub zones-least : 1 ≤ length (c .zones)
@@ -66,10 +68,12 @@ pub record Tested (c : Content) : Type 0 where
   pub zones : All ZoneFits (c .zones)
   pub units : All (UnitFits (length (c .zones))) (c .units)
   pub pars : All ParFits (c .pars)
+  pub paths : All PathFits (c .paths)
+  pub circulations : All CirculationFits (c .circulations)
 
-pub valid-of : (c : Content) → Tested c → All FactorFits (c .factors) → All (PointFits (length (c .zones))) (c .points) → Valid c
+pub valid-of : (c : Content) → Tested c → Lake (length (c .paths)) (length (c .circulations)) → All FactorFits (c .factors) → All (PointFits (length (c .zones))) (c .points) → Valid c
 unfolding dueCount
-valid-of c t f p = record {
+valid-of c t lake f p = record {
   heads = t .heads;
   zones-least = t .zones-least;
   zones-most = t .zones-most;
@@ -78,26 +82,43 @@ valid-of c t f p = record {
   points-most = t .points-most;
   pars-most = t .pars-most;
   factors = t .due;
+  lake = lake;
   head-fits = t .head;
   zone-fits = at-each ZoneFits noZone (c .zones) (t .zones);
   unit-fits = at-each (UnitFits (length (c .zones))) noUnit (c .units) (t .units);
   point-fits = at-each (PointFits (length (c .zones))) noPoint (c .points) p;
   par-fits = at-each ParFits noPar (c .pars) (t .pars);
+  path-fits = at-each PathFits noPath (c .paths) (t .paths);
+  circulation-fits = at-each CirculationFits noCirculation (c .circulations) (t .circulations) 0;
   factor-fits = λ target subject i a. looked-up (c .factors) f target subject _;
 }
 
+s-points : All (PointFits 2) (sheetS .points)
+s-points = (
+  record { sort-least = lit≤ tt; sort-most = lit≤ tt; place = line-fits 2 2 (lit≤ tt) (lit≤ tt); import = lit≤ tt; export = lit≤ tt; wheel-in = lit≤ tt; wheel-out = lit≤ tt },
+  (record { sort-least = lit≤ tt; sort-most = lit≤ tt; place = proxy-fits 2; import = lit≤ tt; export = lit≤ tt; wheel-in = lit≤ tt; wheel-out = lit≤ tt }, tt),
+)
+
 pub s-valid : Valid sheetS
 unfolding dueCount
-s-valid =
-    valid-of sheetS (omega arith) (omega arith) (
-      record { sort-least = lit≤ tt; sort-most = lit≤ tt; place = line-fits 2 2 (lit≤ tt) (lit≤ tt); import = lit≤ tt; export = lit≤ tt; wheel-in = lit≤ tt; wheel-out = lit≤ tt },
-      (record { sort-least = lit≤ tt; sort-most = lit≤ tt; place = proxy-fits 2; import = lit≤ tt; export = lit≤ tt; wheel-in = lit≤ tt; wheel-out = lit≤ tt }, tt),
-    )
+s-valid = valid-of sheetS (omega arith) (none refl refl) (omega arith) s-points
+
+pub lowered-valid : Valid lowered
+unfolding dueCount
+lowered-valid = valid-of lowered (omega arith) (all refl refl) (omega arith) s-points
 
 pub s-balanced : balanceRow sheetS ≡ 0
 unfolding refused
 s-balanced = refl
 
-pub s-inside : flowRow (marketFlow sheetS) ≡ 0
+pub lowered-balanced : balanceRow lowered ≡ 0
+unfolding refused
+lowered-balanced = refl
+
+pub s-inside : flowRow (settlementFlow sheetS (inWatts (pos 100))) ≡ 0
 unfolding printed flowRow
 s-inside = refl
+
+pub lowered-inside : flowRow (settlementFlow lowered (inWatts (pos 100))) ≡ 0
+unfolding printed flowRow
+lowered-inside = refl

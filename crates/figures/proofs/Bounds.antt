@@ -8,7 +8,7 @@ use borrow.Author.Tests.{eq-eqb, ne-eqb}
 use lib.Dec.{eqb}
 use lib.IntN.{ℤ, pos, natAbs, _+ℤ_, _-ℤ_, _*ℤ_}
 use lib.ListN.{length}
-use lib.Signed.{_≤ℤ_}
+use lib.Signed.{_≤ℤ_, leZ}
 use Rattle.integers.specs.Sum.{sumTo}
 use Rattle.integers.proofs.Linear.{zarith}
 use Rattle.integers.proofs.Order.{≤-trans, lt-le}
@@ -20,16 +20,19 @@ use Rattle.records.specs.Codes.{common, noncommon, unitSubject, zoneSubject}
 use Rattle.records.specs.Content.{Content, unit, par}
 use Rattle.record_rows.specs.inner.Valid.{Valid}
 use Rattle.figures.specs.Balance.{imports, totalLoad, zoneLoad, netLoad, output, outputIn, zoneOutput, exports, zoneGeneration, netGeneration, finalGeneration, grossOutput, grossLoad, balanceRow}
-use Rattle.figures.specs.Flow.{factor, parFactor, outputTerm, weightedOutput, loadTerm, weightedLoad, firstDividend, loadShare, firstRemainder, grossFlow, secondDividend, generationToLoad, secondRemainder, parallel, shadow, control, carriedTerm, carriedSum, carried, redirect, nyisoMonitors, nonCommonRedirect, marketFlow}
-use Rattle.figures.specs.inner.Most.{mostPower, mostWeighted, mostShare, mostGenerationToLoad, mostSchedule, mostOnPar, mostOverPar, mostCarriedSum, mostCarried, mostRedirect, mostMarket}
+use Rattle.figures.specs.Flow.{factor, parFactor, outputTerm, weightedOutput, loadTerm, weightedLoad, firstDividend, loadShare, firstRemainder, grossFlow, secondDividend, generationToLoad, secondRemainder, parallel, shadow, control, carriedTerm, carriedSum, carried, redirect, nyisoMonitors, nonCommonRedirect, marketFlow, mostFlow}
+use Rattle.figures.specs.Lake.{hasPaths, impact, adjustedFlow, middle, settlementFlow}
+use Rattle.figures.specs.inner.Most.{mostPower, mostWeighted, mostShare, mostGenerationToLoad, mostSchedule, mostOnPar, mostOverPar, mostCarriedSum, mostCarried, mostRedirect, mostMarket, mostPathSum, mostImpact, mostAdjusted}
 use Rattle.figures.proofs.Numbers.{natural-least, less-left, size-most, size-rise, cond-within, times-within, sum-within, sum-rise, sum-weighted, remainder-within, quotient-share}
 use Rattle.figures.proofs.Balanced.{imports-least, exports-least, gross-load-most, gross-output-most, zone-load-least, net-load-above, net-generation-above, final-generation-least, final-generation-most}
 use Rattle.figures.proofs.Factors.{unit-factor-within, zone-factor-within, par-factor-within}
-use Rattle.figures.proofs.Ranges.{parallel-within, shadow-within, control-within}
+use Rattle.figures.proofs.Ranges.{parallel-within, shadow-within, control-within, impact-within}
+use Rattle.figures.proofs.Middle.{middle-keeps}
 
--- the bounds of steps 4 to 6 as figures
+-- the bounds of steps 4 to 6 and of the lake as figures
 pub worked-bounds : (mostSchedule ≡ 1280000000000) × (mostCarriedSum ≡ 134400000000000000) × (mostRedirect ≡ 13760000000000) × (mostMarket ≡ 30480000000000)
-worked-bounds = (refl, refl, refl, refl)
+    × (mostPathSum ≡ 400000000000) × (mostImpact ≡ 100000000000) × (mostAdjusted ≡ 30580000000000)
+worked-bounds = (refl, refl, refl, refl, refl, refl, refl)
 
 -- a number times a factor
 weighted : (x f : ℤ) → natAbs f ≤ 10000 → natAbs (x *ℤ f) ≤ 10000 * natAbs x
@@ -47,6 +50,15 @@ output-least c i = natural-least (unit c i .output)
 gross-output-least : (c : Content) → pos 0 ≤ℤ grossOutput c
 unfolding grossOutput
 gross-output-least c = sum-least (output c) (length (c .units)) (λ i l. output-least c i)
+
+pub with-paths : (c : Content) (watts : ℤ) → hasPaths c ≡ true → settlementFlow c watts ≡ middle leZ (marketFlow c) (adjustedFlow c) watts
+unfolding settlementFlow
+with-paths c watts e = rw e
+
+-- without paths the settlement flow is the market flow
+pub without-paths : (c : Content) (watts : ℤ) → hasPaths c ≡ false → settlementFlow c watts ≡ marketFlow c
+unfolding settlementFlow
+without-paths c watts e = rw e
 
 -- imports only reduce the load, and exports the generation
 net-load-gross : (c : Content) → netLoad c ≤ℤ grossLoad c
@@ -175,3 +187,16 @@ module _ {c : Content} (v : Valid c) (e : balanceRow c ≡ 0) where
       let k : 0 ≤ length (c .pars) = omega arith in
       parts-small (generationToLoad c 0) (parallel c 0) (shadow c 0) (redirect c common) (nonCommonRedirect c)
       (generation-to-load-small k) (parallel-within v k) (shadow-within v k) (redirect-small common) non-common-redirect-small
+
+  -- the lake
+  pub adjusted-flow-small : natAbs (adjustedFlow c) ≤ mostAdjusted
+  unfolding adjustedFlow
+  adjusted-flow-small = omega (arith, abs-add (marketFlow c) (impact c), market-flow-small, impact-within v)
+
+  pub settlement-flow-small : (watts : ℤ) → natAbs watts ≤ mostFlow → natAbs (settlementFlow c watts) ≤ mostAdjusted
+  unfolding settlementFlow
+  settlement-flow-small watts h = by (hasPaths c)
+    where
+      by : (b : Bool) → natAbs (cond b (middle leZ (marketFlow c) (adjustedFlow c) watts) (marketFlow c)) ≤ mostAdjusted
+      by true = middle-keeps leZ (λ x. natAbs x ≤ mostAdjusted) (marketFlow c) (adjustedFlow c) watts (omega (arith, market-flow-small)) adjusted-flow-small (omega arith)
+      by false = omega (arith, market-flow-small)

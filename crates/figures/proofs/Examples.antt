@@ -1,4 +1,4 @@
--- Document 01's worked figures, computed: flows with their remainders, payments, sheet S; another sheet; each of refusals 16 to 22 and the order of 16 to 21.
+-- Document 01's worked figures, computed: flows with their remainders, payments, sheet S; another sheet; sheet S with paths; each of refusals 16 to 22 and the order of 16 to 21.
 use Prim.Native.Nat.{ℕ}
 use mathlib.Core.Path.{_≡_, refl}
 use mathlib.Core.List.{List, [], _∷_, map}
@@ -17,6 +17,7 @@ use Rattle.records.specs.Codes.{nyiso, pjm, common, noncommon}
 use Rattle.records.specs.Content.{Content, noName, head, bears, factorFor}
 use Rattle.figures.specs.Balance.{samePlace, importAt, imports, exportAt, exports, totalLoad, zoneLoad, netLoad, finalLoad, output, outputIn, zoneOutput, zoneGeneration, netGeneration, finalGeneration, grossOutput, grossLoad, noneBelowZero, balanceRow}
 use Rattle.figures.specs.Flow.{factor, parFactor, outputTerm, weightedOutput, loadTerm, weightedLoad, firstDividend, loadShare, firstRemainder, grossFlow, secondDividend, generationToLoad, secondRemainder, netSchedule, scheduleTerm, scheduleFlow, parallel, shadow, controlTerm, control, carriedTerm, carriedSum, carried, redirect, nyisoMonitors, nonCommonRedirect, marketFlow, flowRow}
+use Rattle.figures.specs.Lake.{hasPaths, pathTerm, pathSum, impact, adjustedFlow, settlementFlow}
 use Rattle.figures.specs.Payment.{inWatts, difference, price, amountOf, amount, payment}
 
 -- records, most of them without a name: no figure depends on it
@@ -41,9 +42,22 @@ parOf class actual target = record { name = noName; class = class; actual = actu
 abbrev pub factorOf : ℕ → ℕ → ℕ → ℤ → Factor
 factorOf target subject index x = record { target = target; subject = subject; index = index; factor = x }
 
--- a content without PARs
+-- a content without PARs and paths
 abbrev pub plain : Head → List Zone → List Unit → List Point → List Factor → Content
-plain h zones units points factors = record { heads = h ∷ []; zones = zones; units = units; points = points; pars = []; factors = factors }
+plain h zones units points factors = record { heads = h ∷ []; zones = zones; units = units; points = points; pars = []; factors = factors; paths = []; circulations = [] }
+
+-- a content with paths, each a flow and a factor, and a circulation in addition
+abbrev pub onLake : Content → List (ℤ × ℤ) → ℤ → Content
+onLake c paths circulation = record {
+  heads = c .heads;
+  zones = c .zones;
+  units = c .units;
+  points = c .points;
+  pars = c .pars;
+  factors = c .factors;
+  paths = map (λ (p : ℤ × ℤ). record { name = noName; flow = p .0; factor = p .1 }) paths;
+  circulations = record { flow = circulation } ∷ [];
+}
 
 -- Monitoring PJM, 900 s, prices 400,000 and 100,000
 abbrev pub dear : Head
@@ -56,6 +70,7 @@ unfolding sumTo quotient remainder bears factorFor
     factor parFactor outputTerm weightedOutput loadTerm weightedLoad firstDividend loadShare firstRemainder grossFlow
     secondDividend generationToLoad secondRemainder netSchedule scheduleTerm scheduleFlow parallel shadow controlTerm control carriedTerm carriedSum
     carried redirect nyisoMonitors nonCommonRedirect marketFlow
+    hasPaths pathTerm pathSum impact adjustedFlow settlementFlow
     inWatts difference price amountOf amount payment
 printed c entitlement =
     generationToLoad c 0
@@ -95,6 +110,8 @@ likeS rto class = record {
       ∷ factorOf 1 3 1 (pos 2000)
       ∷ factorOf 1 3 2 (pos 0)
       ∷ [];
+  paths = [];
+  circulations = [];
 }
 
 abbrev pub sheetS : Content
@@ -110,6 +127,8 @@ wheeling = record {
   points = wheelOf noncommon (Line 2) 500 0 70 30 ∷ wheelOf common Proxy 300 200 20 50 ∷ [];
   pars = sheetS .pars;
   factors = sheetS .factors;
+  paths = [];
+  circulations = [];
 }
 
 -- A line with an export, two PARs of one class, and a common point that acts on each PAR: here G and net generation differ, a PAR's shadow
@@ -149,6 +168,8 @@ exchanging rto = record {
       ∷ factorOf 3 3 1 (pos 503)
       ∷ factorOf 3 3 2 (negsuc 600)
       ∷ [];
+  paths = [];
+  circulations = [];
 }
 
 -- a market flow of 10,000,000 W
@@ -171,6 +192,40 @@ statements =
 pub printed-statements : map (λ (r : Content × ℤ × List ℤ). (r .0, r .1, printed (r .0) (r .1))) statements ≡ statements
 unfolding printed
 printed-statements = refl
+
+-- Sheet S with paths: its market flow is 13,187,500 W. The terms are 360 × the first factor × 10, −240 × 500 × 10, 80 × −300 × 10 and 40 × 200 × 10
+abbrev pub bordering : ℤ → Content
+bordering first = onLake sheetS ((pos 100, first) ∷ (negsuc 49, pos 500) ∷ (pos 30, negsuc 299) ∷ (pos 20, pos 200) ∷ []) (pos 40)
+
+abbrev pub lowered : Content
+lowered = bordering (negsuc 999)
+
+abbrev pub raised : Content
+raised = bordering (pos 1000)
+
+-- and with a circulation of −1 alone: a term is 10 × its factor
+abbrev pub tens : ℤ → ℤ → Content
+tens first second = onLake sheetS ((pos 0, first) ∷ (pos 0, second) ∷ (pos 0, pos 0) ∷ (pos 0, pos 0) ∷ []) (negsuc 0)
+
+-- content, entitlement; path sum, impact, adjusted flow, settlement flow, amount. Impacts of 2.5, 7.5 and −2.5 W are rounded to even; two of 2.5 W are 5 W
+abbrev lakes : List (Content × ℤ × List ℤ)
+lakes =
+    (lowered, pos 100, negsuc 4959999 ∷ negsuc 1239999 ∷ pos 11947500 ∷ pos 11947500 ∷ pos 811458 ∷ [])
+    ∷ (lowered, pos 125, negsuc 4959999 ∷ negsuc 1239999 ∷ pos 11947500 ∷ pos 12500000 ∷ pos 0 ∷ [])
+    ∷ (lowered, pos 135, negsuc 4959999 ∷ negsuc 1239999 ∷ pos 11947500 ∷ pos 13187500 ∷ negsuc 52082 ∷ [])
+    ∷ (raised, pos 100, pos 2240000 ∷ pos 560000 ∷ pos 13747500 ∷ pos 13187500 ∷ pos 1328125 ∷ [])
+    ∷ (raised, pos 135, pos 2240000 ∷ pos 560000 ∷ pos 13747500 ∷ pos 13500000 ∷ pos 0 ∷ [])
+    ∷ (raised, pos 150, pos 2240000 ∷ pos 560000 ∷ pos 13747500 ∷ pos 13747500 ∷ negsuc 208749 ∷ [])
+    ∷ (tens (pos 1) (pos 0), pos 150, pos 10 ∷ pos 2 ∷ pos 13187502 ∷ pos 13187502 ∷ negsuc 302082 ∷ [])
+    ∷ (tens (pos 3) (pos 0), pos 150, pos 30 ∷ pos 8 ∷ pos 13187508 ∷ pos 13187508 ∷ negsuc 302081 ∷ [])
+    ∷ (tens (negsuc 0) (pos 0), pos 100, negsuc 9 ∷ negsuc 1 ∷ pos 13187498 ∷ pos 13187498 ∷ pos 1328124 ∷ [])
+    ∷ (tens (pos 1) (pos 1), pos 150, pos 20 ∷ pos 5 ∷ pos 13187505 ∷ pos 13187505 ∷ negsuc 302081 ∷ [])
+    ∷ (tens (pos 1) (negsuc 0), pos 100, pos 0 ∷ pos 0 ∷ pos 13187500 ∷ pos 13187500 ∷ pos 1328125 ∷ [])
+    ∷ []
+
+pub settled-lakes : map (λ (r : Content × ℤ × List ℤ). (r .0, r .1, pathSum (r .0) ∷ impact (r .0) ∷ adjustedFlow (r .0) ∷ settlementFlow (r .0) (inWatts (r .1)) ∷ amount (r .0) (r .1) ∷ [])) lakes ≡ lakes
+unfolding printed
+settled-lakes = refl
 
 -- zone loads 1 and 2, factors 1 and 0; one unit, output 1, factor 1
 abbrev pub thirds : Content

@@ -1,4 +1,5 @@
 pub mod Numbers
+pub mod Middle
 pub mod Balanced
 pub mod Factors
 pub mod Ranges

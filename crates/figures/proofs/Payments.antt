@@ -15,7 +15,8 @@ use Rattle.records.specs.declared.Head.{Head}
 use Rattle.records.specs.Codes.{nyiso, pjm}
 use Rattle.records.specs.Content.{Content, head}
 use Rattle.record_rows.specs.inner.Valid.{Valid, HeadFits}
-use Rattle.figures.specs.Flow.{marketFlow, mostFlow, flowRow}
+use Rattle.figures.specs.Flow.{mostFlow, flowRow}
+use Rattle.figures.specs.Lake.{settlementFlow}
 use Rattle.figures.specs.Payment.{inWatts, difference, price, amountOf, amount, payment}
 use Rattle.figures.specs.inner.Most.{mostDifference, mostAmount}
 use Rattle.figures.proofs.Numbers.{natural-least, times-within, quotient-share}
@@ -64,10 +65,12 @@ pub in-watts-within : (entitlement : ℤ) → natAbs entitlement ≤ 100000 → 
 unfolding inWatts
 in-watts-within entitlement h = times-within entitlement (pos 100000) h (le-refl 100000)
 
-module _ (c : Content) (entitlement : ℤ) (e : flowRow (marketFlow c) ≡ 0) (h : natAbs entitlement ≤ 100000) where
+module _ (c : Content) (entitlement : ℤ) (e : flowRow (settlementFlow c (inWatts entitlement)) ≡ 0) (h : natAbs entitlement ≤ 100000) where
   pub difference-within : natAbs (difference c entitlement) ≤ mostDifference
   unfolding difference
-  difference-within = omega (arith, abs-sub (marketFlow c) (inWatts entitlement), flow-within (marketFlow c) e, in-watts-within entitlement h)
+  difference-within =
+      let flow = settlementFlow c (inWatts entitlement) in
+      omega (arith, abs-sub flow (inWatts entitlement), flow-within flow e, in-watts-within entitlement h)
 
   pub amount-within : Valid c → natAbs (amount c entitlement) ≤ mostAmount
   unfolding amount

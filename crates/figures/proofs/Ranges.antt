@@ -1,10 +1,11 @@
--- How large each term and each sum can be on any content that passes rows 1 to 13.
+-- How large each term and each sum can be on any content that passes rows 1 to 13 and 28.
 use Prim.Native.Nat.{ℕ, _+_, _*_, _≤_, _<_}
-use native.Mathlib.Nat.{le-refl}
+use native.Mathlib.Nat.{le-refl, le-trans}
 use native.Mathlib.Omega.{arith}
 use lib.Dec.{eqb}
 use lib.IntN.{ℤ, pos, natAbs, _+ℤ_, _-ℤ_, _*ℤ_}
 use lib.ListN.{length}
+use Rattle.integers.specs.Sum.{sumTo}
 use Rattle.integers.proofs.Absolute.{abs-sub}
 use Rattle.integers.proofs.Linear.{zarith}
 use Rattle.integers.proofs.Tactic.{zi, zo}
@@ -12,12 +13,13 @@ use Rattle.records.specs.declared.Place.{Place}
 use Rattle.records.specs.declared.Place.the-variants.{Line}
 use Rattle.records.specs.declared.Point.{Point}
 use Rattle.records.specs.Codes.{common, noncommon, pointSubject}
-use Rattle.records.specs.Content.{Content, zone, unit, point, par}
-use Rattle.record_rows.specs.inner.Valid.{PointFits, Valid}
+use Rattle.records.specs.Content.{Content, zone, unit, point, par, path, circulation}
+use Rattle.record_rows.specs.inner.Valid.{PointFits, Lake, none, all, Valid}
 use Rattle.figures.specs.Balance.{samePlace, importAt, imports, totalLoad, zoneLoad, output}
 use Rattle.figures.specs.Flow.{factor, parFactor, netSchedule, scheduleTerm, scheduleFlow, parallel, shadow, controlTerm, control}
-use Rattle.figures.specs.inner.Most.{mostNet, mostSchedule, mostControl}
-use Rattle.figures.proofs.Numbers.{cond-within, times-within, sum-within}
+use Rattle.figures.specs.Lake.{pathTerm, pathSum, impact}
+use Rattle.figures.specs.inner.Most.{mostNet, mostSchedule, mostControl, mostPathSum, mostImpact}
+use Rattle.figures.proofs.Numbers.{cond-within, times-within, sum-within, quotient-share}
 use Rattle.figures.proofs.Factors.{point-factor-within, par-factor-within}
 
 -- power × factor × 10, in watts
@@ -30,6 +32,15 @@ gap-within a b d f = simp zi (simp zo (omega zarith))
 pub net-within : {zones : ℕ} {p : Point} → PointFits zones p → natAbs (netSchedule p) ≤ mostNet
 unfolding netSchedule
 net-within {p = p} f = gap-within (p .import) (p .«wheel_in») (p .export) (p .«wheel_out») (f .import) (f .wheel-in) (f .export) (f .wheel-out)
+
+lake-most : {paths circulations : ℕ} → Lake paths circulations → paths ≤ 4
+lake-most (none p q) = omega arith
+lake-most (all p q) = omega arith
+
+-- where there is a path there is the circulation
+pub lake-whole : {paths circulations : ℕ} → Lake paths circulations → 0 < paths → 0 < circulations
+lake-whole (none p q) l = absurd (omega arith)
+lake-whole (all p q) l = omega arith
 
 module _ {c : Content} (v : Valid c) where
   -- steps 1 and 2
@@ -76,3 +87,28 @@ module _ {c : Content} (v : Valid c) where
   pub control-within : (class : ℕ) → natAbs (control c class) ≤ mostControl
   unfolding control
   control-within class = sum-within (controlTerm c class) (400000 * 10000 * 10) (control-term-within class) (v .pars-most)
+
+  -- the lake
+  pub paths-most : length (c .paths) ≤ 4
+  paths-most = lake-most (v .lake)
+
+  pub circulation-within : 0 < length (c .paths) → natAbs (circulation c .flow) ≤ 200000
+  circulation-within l = v .circulation-fits (lake-whole (v .lake) l) .flow
+
+  pub path-term-within : (i : ℕ) → i < length (c .paths) → natAbs (pathTerm c i) ≤ 1000000 * 10000 * 10
+  unfolding pathTerm
+  path-term-within i l =
+      let flow = pos 4 *ℤ path c i .flow in
+      watts-within (flow -ℤ circulation c .flow) (path c i .factor) {a = 1000000}
+      (omega (arith, abs-sub flow (circulation c .flow), times-within (pos 4) (path c i .flow) (le-refl 4) (v .path-fits i l .flow), circulation-within (omega arith))) (v .path-fits i l .factor)
+
+  pub path-sums-within : (n : ℕ) → n ≤ length (c .paths) → natAbs (sumTo (pathTerm c) n) ≤ mostPathSum
+  path-sums-within n l = sum-within (pathTerm c) (1000000 * 10000 * 10) (λ i m. path-term-within i (omega arith)) (le-trans l paths-most)
+
+  pub path-sum-within : natAbs (pathSum c) ≤ mostPathSum
+  unfolding pathSum
+  path-sum-within = path-sums-within (length (c .paths)) (le-refl (length (c .paths)))
+
+  pub impact-within : natAbs (impact c) ≤ mostImpact
+  unfolding impact
+  impact-within = quotient-share (pathSum c) (pos 4) mostImpact (record { lt = tt }) path-sum-within

@@ -107,9 +107,9 @@ nonCommonRedirect c = cond (nyisoMonitors c) (pos 0) (redirect c noncommon)
 unfoldable pub marketFlow : Content → ℤ
 marketFlow c = generationToLoad c 0 +ℤ parallel c 0 +ℤ shadow c 0 -ℤ redirect c common -ℤ nonCommonRedirect c
 
--- 22: the market flow is outside ±10,000,000,000 W
+-- 22: the flow is outside ±10,000,000,000 W. It judges the settlement flow, which without paths is the market flow (document 02, request 6)
 abbrev pub mostFlow : ℕ
 mostFlow = 10000000000
 
 unfoldable pub flowRow : ℤ → ℕ
-flowRow market = row 22 (beyond mostFlow market) 0
+flowRow flow = row 22 (beyond mostFlow flow) 0

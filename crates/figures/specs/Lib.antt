@@ -1,4 +1,5 @@
 pub mod Balance
 pub mod Flow
+pub mod Lake
 pub mod Payment
 pub mod inner

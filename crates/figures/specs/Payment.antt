@@ -6,14 +6,15 @@ use lib.IntN.{ℤ, pos, negsuc, negℤ, _-ℤ_, _*ℤ_}
 use Rattle.quotient.specs.Rounded.{quotient}
 use Rattle.records.specs.declared.Head.{Head}
 use Rattle.records.specs.Content.{Content, head}
-use Rattle.figures.specs.Flow.{marketFlow}
+use Rattle.figures.specs.Lake.{settlementFlow}
 
 -- an entitlement in watts
 unfoldable pub inWatts : ℤ → ℤ
 inWatts entitlement = entitlement *ℤ pos 100000
 
+-- the settlement flow takes the market flow's place (document 02, request 6)
 unfoldable pub difference : Content → ℤ → ℤ
-difference c entitlement = marketFlow c -ℤ inWatts entitlement
+difference c entitlement = settlementFlow c (inWatts entitlement) -ℤ inWatts entitlement
 
 -- a difference's price: above zero the Monitoring price, below zero the Non-Monitoring price, at zero 0
 unfoldable pub price : Head → ℤ → ℤ

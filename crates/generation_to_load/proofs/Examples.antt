@@ -46,6 +46,8 @@ differing = record {
       ∷ factorOf 1 2 2 (pos 700)
       ∷ factorOf 1 2 3 (pos 39)
       ∷ [];
+  paths = [];
+  circulations = [];
 }
 
 -- the zones' figures, and gross, net and final

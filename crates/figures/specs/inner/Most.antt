@@ -39,7 +39,7 @@ mostCarriedSum = 8 * mostOverPar
 abbrev pub mostCarried : ℕ
 mostCarried = 8 * mostOnPar
 
--- of each of 8 PARs actual − target × factor × 10
+-- of each of 8 PARs (actual − target) × factor × 10
 abbrev pub mostControl : ℕ
 mostControl = 8 * (400000 * 10000 * 10)
 
@@ -49,6 +49,16 @@ mostRedirect = mostCarried + mostControl
 -- the market flow before row 22: its five parts
 abbrev pub mostMarket : ℕ
 mostMarket = mostGenerationToLoad + mostSchedule + mostSchedule + mostRedirect + mostRedirect
+
+-- of each of 4 paths (4 × path flow − circulation) × factor × 10, and a quarter of that
+abbrev pub mostPathSum : ℕ
+mostPathSum = 4 * (1000000 * 10000 * 10)
+
+abbrev pub mostImpact : ℕ
+mostImpact = 1000000 * 10000 * 10
+
+abbrev pub mostAdjusted : ℕ
+mostAdjusted = mostMarket + mostImpact
 
 abbrev pub mostDifference : ℕ
 mostDifference = 20000000000
