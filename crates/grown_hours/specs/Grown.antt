@@ -11,7 +11,7 @@ use Rattle.entitlements.specs.declared.Entitlement.the-variants as found
 use Rattle.entitlements.specs.Entitlements.{entitlement}
 use Rattle.accuracy.specs.Fraction.{Fraction, entire, _⊕_}
 use Rattle.accuracy.specs.Exact.{exactAmount}
-use Rattle.accuracy.specs.Accurate.{amountBound, marketBound}
+use Rattle.accuracy.specs.Accurate.{amountBound, settlementBound}
 use Rattle.statement.specs.declared.Statement.{Statement}
 use Rattle.settlement.specs.Settled.{Inputs, flowgate, interval, settled}
 use Rattle.hours.specs.declared.Hour.{Hour}
@@ -53,7 +53,7 @@ abbrev pub none : Exact
 none = record { amount = entire (pos 0); bound = entire (pos 0) }
 
 unfoldable pub exactAt : Content → Entitlement → Exact
-exactAt c (found.Found e) = record { amount = exactAmount c e; bound = amountBound (head c) (marketBound c) }
+exactAt c (found.Found e) = record { amount = exactAmount c e; bound = amountBound (head c) (settlementBound c) }
 exactAt c (found.Refused row) = none
 
 unfoldable pub exactBy : Inputs → Reading → Exact

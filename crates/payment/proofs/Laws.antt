@@ -21,11 +21,11 @@ module _ (h : Head) (v : HeadFits h) (d : ℤ) (b : natAbs d ≤ 20000000000) wh
   pub second-product : (p : ℤ) → p ≡ price h d → Op (rd (rd d *ℤ rd p) *ℤ toZ w64 (h .seconds)) (d *ℤ price h d *ℤ pos (h .seconds)) 7200000000000000000
   second-product p e = mul (first-product p e .num) (num-u _ 900 (v .seconds-most) (lit< tt)) (lit< tt)
 
--- the entitlement in watts, and the difference
-module _ (h : Head) (flow e : ℤ) (v : Payable h flow e) where
-  pub watts : Op (rd e *ℤ pos 100000) (inWatts e) 10000000000
-  unfolding inWatts
-  watts = mul {B = 100000} (num e 100000 (v .entitlement-most) (lit< tt)) (record { is = refl; abs = omega arith }) (lit< tt)
+-- an entitlement in watts
+pub in-watts : (e : ℤ) → natAbs e ≤ 100000 → Op (rd e *ℤ pos 100000) (inWatts e) 10000000000
+unfolding inWatts
+in-watts e h = mul {B = 100000} (num e 100000 h (lit< tt)) (record { is = refl; abs = omega arith }) (lit< tt)
 
-  pub gap : Op (rd flow -ℤ rd (rd e *ℤ pos 100000)) (flow -ℤ inWatts e) 20000000000
-  gap = sub (num flow 10000000000 (v .flow-most) (lit< tt)) (watts .num) (lit< tt)
+-- the difference
+pub gap : (h : Head) (flow watts : ℤ) → Payable h flow watts → Op (rd flow -ℤ rd watts) (flow -ℤ watts) 20000000000
+gap h flow watts v = sub (num flow 10000000000 (v .flow-most) (lit< tt)) (num watts 10000000000 (v .watts-most) (lit< tt)) (lit< tt)

@@ -4,7 +4,7 @@ ghost use Prim.Native.Nat.{_≤_};
 ghost use lib.IntN.{natAbs};
 ghost use Rattle.record_rows.specs.inner.Valid.{HeadFits};
 ghost use Rattle.figures.specs.Flow.{flowRow};
-ghost use Rattle.figures.specs.Payment.{price, amountOf, payment};
+ghost use Rattle.figures.specs.Payment.{inWatts, price, amountOf, payment};
 ghost use Rattle.figures.specs.inner.Most.{mostDifference, mostAmount};
 ghost use Rattle.payment.specs.inner.Payment.{paymentOf, Payable};
 use records::Head;
@@ -16,6 +16,14 @@ pub struct Payment {
     pub amount: i64,
     pub nyiso: i64,
     pub pjm: i64,
+}
+
+// An entitlement in watts.
+pub fn in_watts(entitlement: i64) -> i64
+    requires { ⌜ natAbs entitlement ≤ 100000 ⌝ }
+    ensures { λ r. ⌜ r ≡ inWatts entitlement ⌝ }
+{
+    entitlement * 100_000
 }
 
 // Of the flow that is paid on, either way.
@@ -60,11 +68,11 @@ fn paid_to(h: Head, amount: i64, rto: u8) -> i64
     -amount
 }
 
-pub fn pay(h: Head, flow: i64, entitlement: i64) -> Payment
-    requires { ⌜ Payable h flow entitlement ⌝ }
-    ensures { λ r. ⌜ r ≡ paymentOf h flow entitlement ⌝ }
+// watts: the entitlement.
+pub fn pay(h: Head, flow: i64, watts: i64) -> Payment
+    requires { ⌜ Payable h flow watts ⌝ }
+    ensures { λ r. ⌜ r ≡ paymentOf h flow watts ⌝ }
 {
-    let watts = entitlement * 100_000;
     let difference = flow - watts;
     let amount = amount_of(h, difference);
     Payment {

@@ -2,7 +2,7 @@
 use Prim.Native.Nat.{ℕ, _≤_}
 use native.Mathlib.Decide.{ℕ-discrete}
 use native.Mathlib.Omega.{arith}
-use mathlib.Core.Path.{_≡_, refl}
+use mathlib.Core.Path.{_≡_, refl, sym}
 use mathlib.Core.Bool.{Bool, true, false, cond}
 use mathlib.Core.List.{List}
 use lib.IntN.{ℤ, pos, natAbs, negℤ}
@@ -16,18 +16,19 @@ use Rattle.entitlements.specs.Entitlements.{row14, entriesOf, lookUp, entitleme
 use Rattle.entitlements.proofs.Answers.{value-within}
 use Rattle.entitlements.proofs.ByRecord.{look-other-length}
 use Rattle.figures.specs.Balance.{balanceRow}
-use Rattle.figures.specs.Flow.{marketFlow, mostFlow, flowRow}
+use Rattle.figures.specs.Flow.{mostFlow, flowRow}
+use Rattle.figures.specs.Lake.{hasPaths, settlementFlow}
 use Rattle.figures.specs.Payment.{inWatts, difference, amount}
-use Rattle.figures.specs.inner.Most.{mostPower, mostGenerationToLoad, mostSchedule, mostRedirect, mostAmount}
+use Rattle.figures.specs.inner.Most.{mostPower, mostGenerationToLoad, mostSchedule, mostRedirect, mostMarket, mostAmount}
 use Rattle.figures.proofs.Ranges.{parallel-within, shadow-within}
-use Rattle.figures.proofs.Bounds.{first-remainder-small, generation-to-load-small, second-remainder-small, redirect-small, non-common-redirect-small}
+use Rattle.figures.proofs.Bounds.{first-remainder-small, generation-to-load-small, second-remainder-small, redirect-small, non-common-redirect-small, market-flow-small, without-paths}
 use Rattle.figures.proofs.Payments.{price-within, price-least, flow-within, in-watts-within, amount-within, payments-opposite, payment-within}
 use Rattle.statement.specs.declared.Statement.{Statement}
 use Rattle.settlement.specs.declared.Interval.{Interval}
 use Rattle.settlement.specs.Settled.{inputs, figuresAt, intervalAt, flowgate, settled}
 use Rattle.settlement.proofs.Promised.{holds-valid, NoRowMet, no-row-met, statement-is}
 
--- a price is not negative, and PJM's payment is the negative of NYISO's
+-- a price is not negative, and PJM's payment is the negative of NYISO's. Row 22 leaves the market flow of a sheet with paths as large as it can be
 pub record Bounded (s : Statement) : Type 0 where
   pub name : length (s .name) ≡ 16
   pub gtl : natAbs (s .gtl) ≤ mostGenerationToLoad
@@ -37,7 +38,9 @@ pub record Bounded (s : Statement) : Type 0 where
   pub shadow : natAbs (s .shadow) ≤ mostSchedule
   pub common : natAbs (s .common) ≤ mostRedirect
   pub noncommon : natAbs (s .noncommon) ≤ mostRedirect
-  pub market : natAbs (s .market) ≤ mostFlow
+  pub market : natAbs (s .market) ≤ mostMarket
+  pub settled : natAbs (s .settled) ≤ mostFlow
+  pub unsettled : s .«has_paths» ≡ false → s .market ≡ s .settled
   pub entitlement : natAbs (s .entitlement) ≤ mostFlow
   pub price : natAbs (s .price) ≤ 400000
   pub price-least : pos 0 ≤ℤ s .price
@@ -58,7 +61,7 @@ found-sized list name e q = by (ℕ-discrete (length name) 16)
     by (yes h) = h
     by (no h) = absurd (go (row14 list) refl q h)
 
-figures-bounded : (c : Content) (e : ℤ) → Valid c → balanceRow c ≡ 0 → flowRow (marketFlow c) ≡ 0 → natAbs e ≤ 100000 → length (flowgate c) ≡ 16 → Bounded (figuresAt c e)
+figures-bounded : (c : Content) (e : ℤ) → Valid c → balanceRow c ≡ 0 → flowRow (settlementFlow c (inWatts e)) ≡ 0 → natAbs e ≤ 100000 → length (flowgate c) ≡ 16 → Bounded (figuresAt c e)
 unfolding figuresAt
 figures-bounded c e v b f h n =
     let k : 0 ≤ length (c .pars) = omega arith in
@@ -72,7 +75,9 @@ figures-bounded c e v b f h n =
       shadow = shadow-within v k;
       common = redirect-small v b common;
       noncommon = non-common-redirect-small v b;
-      market = flow-within (marketFlow c) f;
+      market = market-flow-small v b;
+      settled = flow-within (settlementFlow c (inWatts e)) f;
+      unsettled = λ n. sym (without-paths c (inWatts e) n);
       entitlement = in-watts-within e h;
       price = price-within (v .head-fits) (difference c e);
       price-least = price-least (head c) (difference c e);

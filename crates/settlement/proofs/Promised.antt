@@ -22,8 +22,9 @@ use Rattle.entitlements.specs.declared.Entitlement.{Entitlement}
 use Rattle.entitlements.specs.declared.Entitlement.the-variants as found
 use Rattle.entitlements.specs.Entitlements.{Entry, row14, entriesOf, lookUp, entitlement}
 use Rattle.figures.specs.Balance.{balanceRow}
-use Rattle.figures.specs.Flow.{marketFlow, flowRow}
-use Rattle.figures.specs.Payment.{amount, payment}
+use Rattle.figures.specs.Flow.{flowRow}
+use Rattle.figures.specs.Lake.{settlementFlow}
+use Rattle.figures.specs.Payment.{inWatts, amount, payment}
 use Rattle.figures.proofs.Payments.{payments-opposite}
 use Rattle.accuracy.proofs.Accuracy.{accurate}
 use Rattle.statement.specs.declared.Statement.{Statement}
@@ -74,7 +75,7 @@ unless-adds row behind h = go (eqb row 0)
     go true = h
     go false = refl
 
--- what rows 1 to 13 leave of the content that a sheet holds
+-- what rows 1 to 13 and 28 leave of the content that a sheet holds
 pub holds-valid : (sheet : List ℕ) (c : Content) → reading sheet ≡ holds c → Valid c
 unfolding readSheet contentOf
 holds-valid sheet c p = rw p at (valid sheet (layoutOf c) (rw p))
@@ -88,7 +89,7 @@ pub record NoRowMet (x : Inputs) (i : Interval) (c : Content) (e : ℤ) : Type 0
   pub read : reading (x .sheet) ≡ holds c
   pub entitled : entitlement (x .list) (flowgate c) ≡ found.Found e
   pub balanced : balanceRow c ≡ 0
-  pub inside : flowRow (marketFlow c) ≡ 0
+  pub inside : flowRow (settlementFlow c (inWatts e)) ≡ 0
   pub is : i ≡ intervalAt c e
 
 pub statement-is : {x : Inputs} {i : Interval} {c : Content} {e : ℤ} → NoRowMet x i c e → i .statement ≡ figuresAt c e
@@ -102,7 +103,7 @@ module _ (x : Inputs) where
     where
       by-list : (c : Content) → Valid c → (f : Entitlement) → Adds (byList c f .statement)
       by-list c v (found.Found e) =
-          unless-adds (balanceRow c) (afterBalance c e) (unless-adds (flowRow (marketFlow c)) (intervalAt c e) (payments-add (v .head-fits) (amount c e)))
+          unless-adds (balanceRow c) (afterBalance c e) (unless-adds (flowRow (settlementFlow c (inWatts e))) (intervalAt c e) (payments-add (v .head-fits) (amount c e)))
       by-list c v (found.Refused row) = refl
 
       by-sheet : (r : Reading) → reading (x .sheet) ≡ r → Adds (bySheet x r .statement)
@@ -114,7 +115,7 @@ module _ (x : Inputs) where
     unfolding afterList afterBalance
     by-balance e q z =
         let b = passed (balanceRow c) (afterBalance c e) z in
-        let f = passed (flowRow (marketFlow c)) (intervalAt c e) (ap (λ (i : Interval). i .statement .refusal) (sym (b .1)) ∙ z) in
+        let f = passed (flowRow (settlementFlow c (inWatts e))) (intervalAt c e) (ap (λ (i : Interval). i .statement .refusal) (sym (b .1)) ∙ z) in
         record { read = p; entitled = q; balanced = b .0; inside = f .0; is = b .1 ∙ f .1 }
 
     by-list : (f : Entitlement) → entitlement (x .list) (flowgate c) ≡ f → byList c f .statement .refusal ≡ 0 → (e : ℤ) × NoRowMet x (byList c f) c e

@@ -1,4 +1,4 @@
--- What settling an interval answers: refusals 1 to 22 in the table's order, stage by stage, else every figure.
+-- What settling an interval answers: refusals 1 to 22, with 28 behind 13, in the table's order, stage by stage, else every figure.
 use Prim.Native.Nat.{ℕ}
 use mathlib.Core.Bool.{cond}
 use mathlib.Core.List.{List}
@@ -12,6 +12,7 @@ use Rattle.entitlements.specs.declared.Entitlement.the-variants as found
 use Rattle.entitlements.specs.Entitlements.{entitlement}
 use Rattle.figures.specs.Balance.{balanceRow}
 use Rattle.figures.specs.Flow.{generationToLoad, firstRemainder, secondRemainder, parallel, shadow, redirect, nonCommonRedirect, marketFlow, flowRow}
+use Rattle.figures.specs.Lake.{hasPaths, settlementFlow}
 use Rattle.figures.specs.Payment.{inWatts, difference, price, amount, payment}
 use Rattle.statement.specs.declared.Statement.{Statement}
 use Rattle.statement.specs.Statement.{refusedAs}
@@ -30,6 +31,7 @@ unfoldable pub figuresAt : Content → ℤ → Statement
 figuresAt c e = record {
   refusal = 0;
   name = head c .name;
+  «has_paths» = hasPaths c;
   gtl = generationToLoad c 0;
   «first_remainder» = firstRemainder c 0;
   «second_remainder» = secondRemainder c 0;
@@ -38,6 +40,7 @@ figuresAt c e = record {
   common = redirect c common;
   noncommon = nonCommonRedirect c;
   market = marketFlow c;
+  settled = settlementFlow c (inWatts e);
   entitlement = inWatts e;
   price = price (head c) (difference c e);
   amount = amount c e;
@@ -57,9 +60,9 @@ refusedBy row = record { statement = refusedAs row; seconds = 0; «monitoring_rt
 abbrev pub unlessMet : ℕ → Interval → Interval
 unlessMet row behind = cond (eqb row 0) behind (refusedBy row)
 
--- the flow: row 22
+-- the settlement flow: row 22
 unfoldable pub afterBalance : Content → ℤ → Interval
-afterBalance c e = unlessMet (flowRow (marketFlow c)) (intervalAt c e)
+afterBalance c e = unlessMet (flowRow (settlementFlow c (inWatts e))) (intervalAt c e)
 
 -- the balance: rows 16 to 21
 unfoldable pub afterList : Content → ℤ → Interval
@@ -77,7 +80,7 @@ flowgate c = head c .name
 unfoldable pub afterSheet : Content → Inputs → Interval
 afterSheet c x = byList c (entitlement (x .list) (flowgate c))
 
--- the sheet: rows 1 to 13
+-- the sheet: rows 1 to 13 and 28
 unfoldable pub bySheet : Inputs → Reading → Interval
 bySheet x (holds c) = afterSheet c x
 bySheet x (fails number at) = refusedBy number

@@ -1,4 +1,4 @@
-// The settlement of one interval, from a sheet and an entitlement list: refusals 1 to 22.
+// The settlement of one interval, from a sheet and an entitlement list: refusals 1 to 22 and 28.
 ghost use mathlib.Core.Path.{_≡_};
 ghost use Prim.Native.Nat.{_≤_};
 ghost use lib.IntN.{natAbs};
@@ -30,13 +30,20 @@ fn refused(row: u8) -> Interval
     }
 }
 
-fn interval_of(h: Head, f: market_flow::Flow, p: payment::Payment) -> Interval
-    ensures { λ r. ⌜ r ≡ intervalOf h f p ⌝ }
+fn interval_of(
+    h: Head,
+    f: market_flow::Flow,
+    has_paths: bool,
+    settled: i64,
+    p: payment::Payment,
+) -> Interval
+    ensures { λ r. ⌜ r ≡ intervalOf h f «has_paths» settled p ⌝ }
 {
     let name = h.name;
     let statement = Statement {
         refusal: 0,
         name,
+        has_paths,
         gtl: f.gtl,
         first_remainder: f.first_remainder,
         second_remainder: f.second_remainder,
@@ -45,6 +52,7 @@ fn interval_of(h: Head, f: market_flow::Flow, p: payment::Payment) -> Interval
         common: f.common,
         noncommon: f.noncommon,
         market: f.market,
+        settled,
         entitlement: p.entitlement,
         price: p.price,
         amount: p.amount,
@@ -58,7 +66,7 @@ fn interval_of(h: Head, f: market_flow::Flow, p: payment::Payment) -> Interval
     }
 }
 
-// The flow, and the payment on it. Row 22 is judged on the flow that is paid on, before anything is paid.
+// The settlement flow, and the payment on it. Row 22 is judged on that flow, before anything is paid.
 fn settle_flow<'a>(
     s: &[u8],
     l: layout::Layout,
@@ -70,13 +78,15 @@ fn settle_flow<'a>(
     ensures { λ r. ⌜ r ≡ afterBalance (contentOf (now (s .entry))) e ⌝ }
 {
     let f = market_flow::flow_of(s, l, b, zone_loads);
-    let flow_row = payment::flow_row(f.market);
+    let watts = payment::in_watts(e);
+    let settled = settlement_flow::settlement_flow(s, l, f.market, watts);
+    let flow_row = payment::flow_row(settled);
     if flow_row != 0 {
         return refused(flow_row);
     }
     let h = sheet_records::head_at(s, l);
-    let p = payment::pay(h, f.market, e);
-    interval_of(h, f, p)
+    let p = payment::pay(h, settled, watts);
+    interval_of(h, f, 1 <= l.paths, settled, p)
 }
 
 // Loads, generation and their balance, then the flow.

@@ -1,5 +1,6 @@
 -- What a refused statement is (document 01, 'Where each refusal is checked').
 use Prim.Native.Nat.{ℕ}
+use mathlib.Core.Bool.{false}
 use lib.IntN.{pos}
 use lib.ListN.{replicate}
 use Rattle.statement.specs.declared.Statement.{Statement}
@@ -10,6 +11,7 @@ refusedAs n =
     record {
       refusal = n;
       name = replicate 16 0;
+      «has_paths» = false;
       gtl = pos 0;
       «first_remainder» = pos 0;
       «second_remainder» = pos 0;
@@ -18,6 +20,7 @@ refusedAs n =
       common = pos 0;
       noncommon = pos 0;
       market = pos 0;
+      settled = pos 0;
       entitlement = pos 0;
       price = pos 0;
       amount = pos 0;

@@ -35,7 +35,7 @@ returns c =
     let i = s .settle-interval .result in
     let settles = s .settle-interval .ensures .0 in
     let takes = t .take .ensures in
-    let f : SFits w64 (i .statement .amount) = record { sfits = t .before .struct-told .given .1 .1 .1 .1 .1 .1 .1 .1 .1 .1 .1 .1 .0 .1 } in
+    let f : SFits w64 (i .statement .amount) = record { sfits = t .before .struct-told .given .1 .1 .1 .1 .1 .1 .1 .1 .1 .1 .1 .1 .1 .1 .0 .1 } in
     let w = renamed (told-is _ _ _ _ settles takes) (rw (toZ-ofZ f) at (c .before .show-sheet .ensures)) in
     (ap (λ (c : Changed). c .hour) (takes ∙ ap (added _) settles), (w .count, (w .left, counted w)))
 

@@ -1,24 +1,21 @@
 -- `pay` meets its contract.
-use mathlib.Core.Path.{_≡_, refl, sym, ap, _∙_}
+use mathlib.Core.Path.{_≡_}
 use Prim.Native.Nat.{_≤_}
-use lib.IntN.{ℤ, pos, natAbs, _-ℤ_, _*ℤ_}
+use lib.IntN.{natAbs, _-ℤ_}
 use mir.Facts.{toZ-ofZ}
 use mir.Syntax.{w64}
 use mir.Val.{SFits}
 use borrow.Author.Needs.{needs}
 use Rattle.integers.proofs.Machine.{Op, rd}
-use Rattle.figures.specs.Payment.{inWatts, price, amountOf}
+use Rattle.figures.specs.Payment.{price, amountOf}
 use Rattle.figures.proofs.Payments.{amount-of-within}
 use Rattle.payment.specs.inner.Payment.{paymentOf}
-use Rattle.payment.proofs.Laws.{watts, gap}
+use Rattle.payment.proofs.Laws.{gap}
 use Rattle.payment.proofs.pay.Statement.{statement}
 use Rattle.payment.proofs.pay.Tie as tie
 
-mul-watts : tie.Need-mul-watts
-mul-watts c = watts _ _ _ (c .pre) .fits
-
 -- the difference, as the machine works it out
-gap-of : (c : tie.Start) → Op (rd (c .args .flow) -ℤ rd (rd (c .args .entitlement) *ℤ pos 100000)) (c .args .flow -ℤ inWatts (c .args .entitlement)) 20000000000
+gap-of : (c : tie.Start) → Op (rd (c .args .flow) -ℤ rd (c .args .watts)) (c .args .flow -ℤ c .args .watts) 20000000000
 gap-of c = gap _ _ _ (c .pre)
 
 sub-difference : tie.Need-sub-difference
@@ -27,7 +24,7 @@ sub-difference c = gap-of c .fits
 amount-of-requires : tie.Need-amount-of-requires
 amount-of-requires c κs = (c .pre .head-fits, rw (gap-of c .num .is) (gap-of c .num .abs))
 
-amount-is : (c : tie.After-amount-of) → c .amount-of .result ≡ amountOf (c .before .args .h) (c .before .args .flow -ℤ inWatts (c .before .args .entitlement))
+amount-is : (c : tie.After-amount-of) → c .amount-of .result ≡ amountOf (c .before .args .h) (c .before .args .flow -ℤ c .before .args .watts)
 amount-is c = rw (gap-of (c .before) .num .is) at (c .amount-of .ensures)
 
 amount-fits : (c : tie.After-amount-of) → SFits w64 (c .amount-of .result)
@@ -42,7 +39,7 @@ price-of-requires c κs = search needs
 price-fits : (c : tie.After-price-of) → SFits w64 (c .price-of .result)
 price-fits c = search needs
 
-price-is : (c : tie.After-price-of) → let s = c .before .before in c .price-of .result ≡ price (s .args .h) (s .args .flow -ℤ inWatts (s .args .entitlement))
+price-is : (c : tie.After-price-of) → let s = c .before .before in c .price-of .result ≡ price (s .args .h) (s .args .flow -ℤ s .args .watts)
 price-is c = rw (gap-of (c .before .before) .num .is) at (c .price-of .ensures)
 
 paid-to-requires : tie.Need-paid-to-requires
@@ -64,13 +61,12 @@ returns c =
     let p = n .before in
     let a = p .before in
     let s = a .before in
-    rw (watts _ _ _ (s .pre) .num .is, toZ-ofZ (price-fits p), price-is p, toZ-ofZ (nyiso-fits n), toZ-ofZ (pjm-fits c), n .paid-to .ensures, c .paid-to2 .ensures, toZ-ofZ (amount-fits a), amount-is a)
+    rw (toZ-ofZ (s .fits .watts), toZ-ofZ (price-fits p), price-is p, toZ-ofZ (nyiso-fits n), toZ-ofZ (pjm-fits c), n .paid-to .ensures, c .paid-to2 .ensures, toZ-ofZ (amount-fits a), amount-is a)
 
 pub pay-spec : {M : Type 1} → statement M
 pay-spec =
     tie.close
     (tie.spec
-    mul-watts
     sub-difference
     amount-of-requires
     price-of-requires

@@ -25,7 +25,7 @@ add-self c = search needs
 returns : tie.Need-returns
 unfolding withInterval
 returns c =
-    let f : SFits w64 (c .before .before .before .args .i .statement .amount) = record { sfits = c .before .struct-told .given .1 .1 .1 .1 .1 .1 .1 .1 .1 .1 .1 .1 .0 .1 } in
+    let f : SFits w64 (c .before .before .before .args .i .statement .amount) = record { sfits = c .before .struct-told .given .1 .1 .1 .1 .1 .1 .1 .1 .1 .1 .1 .1 .1 .1 .0 .1 } in
     simp (toZ-ofZ f)
 
 pub with-interval-spec : {M : Type 1} → statement M
