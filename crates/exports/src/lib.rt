@@ -30,6 +30,8 @@ pub struct ReadAnswer {
     pub points: usize,
     pub pars: usize,
     pub factors: usize,
+    pub paths: usize,
+    pub circulations: usize,
 }
 
 // What the list says of a flowgate: 0 and the entitlement in tenths of a MW, or a refusal's number.
@@ -67,6 +69,8 @@ pub extern "C" fn m2m_read(sheet: &[u8]) -> ReadAnswer
             points: 0,
             pars: 0,
             factors: 0,
+            paths: 0,
+            circulations: 0,
         },
         sheet::Outcome::Accepted(l) => ReadAnswer {
             refusal: 0,
@@ -76,6 +80,8 @@ pub extern "C" fn m2m_read(sheet: &[u8]) -> ReadAnswer
             points: l.points,
             pars: l.pars,
             factors: l.factors,
+            paths: l.paths,
+            circulations: l.circulations,
         },
     }
 }

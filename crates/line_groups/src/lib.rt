@@ -3,7 +3,7 @@ use lines::put_line;
 ghost use Prim.Native.Nat.{_+_, _*_, _≤_};
 ghost use lib.ListN.{length};
 ghost use Rattle.writers.specs.inner.Prepended.{Prepended};
-ghost use Rattle.printout.specs.Lines.{flowLines, amountLines, paymentLines};
+ghost use Rattle.printout.specs.Lines.{flowLines, settledLines, amountLines, paymentLines};
 ghost use Rattle.lines.specs.inner.Room.{lineRoom};
 
 pub fn put_flows(
@@ -24,6 +24,18 @@ pub fn put_flows(
     let at = put_line(b"common ", common, out, at);
     let at = put_line(b"shadow ", shadow, out, at);
     put_line(b"parallel ", parallel, out, at)
+}
+
+// Of a sheet without paths nothing.
+pub fn put_settled(paths: bool, settled: i64, out: &mut [u8], at: usize) -> usize
+    requires { ⌜ (lineRoom ≤ at) × (at ≤ length (now out)) ⌝ }
+    ensures { λ r. ⌜ Prepended (settledLines paths settled) (now (out .entry)) at (now (out .exit)) r ⌝ }
+    ensures { λ r. ⌜ at ≤ r + lineRoom ⌝ }
+{
+    if !paths {
+        return at;
+    }
+    put_line(b"settled ", settled, out, at)
 }
 
 pub fn put_amounts(amount: i64, nyiso: i64, pjm: i64, out: &mut [u8], at: usize) -> usize

@@ -1,6 +1,7 @@
 // The printed statement (document 01, 'The printed statement').
 use line_groups::put_flows;
 use line_groups::put_payment;
+use line_groups::put_settled;
 use lines::put_flowgate;
 use lines::put_gtl;
 use lines::put_refusal;
@@ -13,13 +14,13 @@ ghost use lib.ListN.{length};
 ghost use Rattle.io.specs.Counts.{Counts};
 ghost use Rattle.writers.specs.inner.Prepended.{Prepended};
 ghost use Rattle.writers.specs.inner.Wrote.{Wrote};
-ghost use Rattle.printout.specs.Lines.{gtlLine, flowLines, paymentLines};
+ghost use Rattle.printout.specs.Lines.{gtlLine, flowLines, settledLines, paymentLines};
 ghost use Rattle.lines.specs.inner.Room.{lineRoom};
 ghost use Rattle.printout.specs.Listing.{listing, shown};
 ghost use Rattle.listing.specs.Buffer.{printed, buffer};
 
-// Room for every listing and every refusal's line, whatever the figures are: 15 lines, of which the name takes two and `gtl` three.
-pub const ROOM: usize = 15 * lines::LINE;
+// Room for every listing and every refusal's line, whatever the figures are: 16 lines, of which the name takes two and `gtl` three.
+pub const ROOM: usize = 16 * lines::LINE;
 
 // What printing leaves: the statement after row 23, and how many bytes of the output buffer were printed.
 #[repr(C)]
@@ -53,6 +54,14 @@ fn put_flows_of(s: Statement, out: &mut [u8], at: usize) -> usize
     )
 }
 
+fn put_settled_of(s: Statement, out: &mut [u8], at: usize) -> usize
+    requires { ⌜ (lineRoom ≤ at) × (at ≤ length (now out)) ⌝ }
+    ensures { λ r. ⌜ Prepended (settledLines (s .«has_paths») (s .settled)) (now (out .entry)) at (now (out .exit)) r ⌝ }
+    ensures { λ r. ⌜ at ≤ r + lineRoom ⌝ }
+{
+    put_settled(s.has_paths, s.settled, out, at)
+}
+
 fn put_payment_of(s: Statement, out: &mut [u8], at: usize) -> usize
     requires { ⌜ (5 * lineRoom ≤ at) × (at ≤ length (now out)) ⌝ }
     ensures { λ r. ⌜ Prepended (paymentLines (s .entitlement) (s .price) (s .amount) (s .nyiso) (s .pjm)) (now (out .entry)) at (now (out .exit)) r ⌝ }
@@ -63,10 +72,11 @@ fn put_payment_of(s: Statement, out: &mut [u8], at: usize) -> usize
 
 // The whole listing at the end of the buffer.
 fn put_listing(s: Statement, out: &mut [u8]) -> usize
-    requires { ⌜ length (now out) ≡ 15 * lineRoom ⌝ }
-    ensures { λ r. ⌜ Prepended (listing s) (now (out .entry)) (15 * lineRoom) (now (out .exit)) r ⌝ }
+    requires { ⌜ length (now out) ≡ 16 * lineRoom ⌝ }
+    ensures { λ r. ⌜ Prepended (listing s) (now (out .entry)) (16 * lineRoom) (now (out .exit)) r ⌝ }
 {
     let at = put_payment_of(s, out, ROOM);
+    let at = put_settled_of(s, out, at);
     let at = put_flows_of(s, out, at);
     let at = put_gtl_of(s, out, at);
     let name = s.name;
@@ -75,8 +85,8 @@ fn put_listing(s: Statement, out: &mut [u8]) -> usize
 
 // The listing, or the one line of a refusal.
 fn put_shown(s: Statement, out: &mut [u8]) -> usize
-    requires { ⌜ length (now out) ≡ 15 * lineRoom ⌝ }
-    ensures { λ r. ⌜ Prepended (shown s) (now (out .entry)) (15 * lineRoom) (now (out .exit)) r ⌝ }
+    requires { ⌜ length (now out) ≡ 16 * lineRoom ⌝ }
+    ensures { λ r. ⌜ Prepended (shown s) (now (out .entry)) (16 * lineRoom) (now (out .exit)) r ⌝ }
 {
     if s.refusal != 0 {
         return put_refusal(s.refusal, out, ROOM);

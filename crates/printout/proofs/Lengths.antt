@@ -1,5 +1,6 @@
 -- How long the texts of numbers, the lines and the listing are.
-use mathlib.Core.Path.{_≡_}
+use mathlib.Core.Path.{_≡_, refl}
+use mathlib.Core.Bool.{true, false}
 use mathlib.Core.List.{List}
 use Prim.Native.Nat.{ℕ, zero, suc, _+_, _*_, _≤_, _<_, _^_}
 use native.Mathlib.Omega.{arith}
@@ -10,7 +11,7 @@ use Rattle.statement.specs.declared.Statement.{Statement}
 use Rattle.writers.specs.Text.{ascii, decimal, unfilled, hexadecimal}
 use Rattle.writers.proofs.Decimal.{natural-length}
 use Rattle.writers.proofs.Names.{hexadecimal-length, unfilled-length}
-use Rattle.printout.specs.Lines.{joined, figure, line, flowgateLine, gtlLine, flowLines, amountLines, paymentLines}
+use Rattle.printout.specs.Lines.{joined, figure, line, flowgateLine, gtlLine, flowLines, settledLines, amountLines, paymentLines}
 use Rattle.printout.specs.Listing.{listing}
 
 -- k + 1 digits and a minus
@@ -63,11 +64,20 @@ module _ (a b c d e : ℤ) where
   unfolding paymentLines amountLines joined ascii
   payment-length = simp (length-append, line-length) (omega arith)
 
+pub settled-length : (z : ℤ) → length (settledLines true z) ≡ 9 + length (decimal z)
+unfolding settledLines ascii
+settled-length z = simp line-length (omega arith)
+
+pub unsettled-length : (z : ℤ) → length (settledLines false z) ≡ 0
+unfolding settledLines
+unsettled-length z = refl
+
 module _ (s : Statement) where
   pub listing-length : length (listing s) ≡
       length (flowgateLine (s .name))
       + length (gtlLine (s .gtl) (s .«first_remainder») (s .«second_remainder»))
       + length (flowLines (s .parallel) (s .shadow) (s .common) (s .noncommon) (s .market))
+      + length (settledLines (s .«has_paths») (s .settled))
       + length (paymentLines (s .entitlement) (s .price) (s .amount) (s .nyiso) (s .pjm))
   unfolding listing joined
   listing-length = simp length-append (omega arith)

@@ -1,4 +1,5 @@
--- The lines of the printed statement (document 01, 'The printed statement'), in its order.
+-- The lines of the printed statement (document 01, 'The printed statement'; document 02, request 6), in its order.
+use mathlib.Core.Bool.{Bool, cond}
 use mathlib.Core.List.{List, [], _∷_, _++_}
 use Prim.Native.Nat.{ℕ}
 use lib.IntN.{ℤ}
@@ -36,6 +37,10 @@ flowLines parallel shadow common noncommon market =
     ∷ line (ascii "market ") market
     ∷ []
     )
+
+-- the settlement flow, of a sheet with paths alone
+unfoldable pub settledLines : Bool → ℤ → List ℕ
+settledLines paths settled = cond paths (line (ascii "settled ") settled) []
 
 -- the amount and the payments, NYISO's always first
 unfoldable pub amountLines : ℤ → ℤ → ℤ → List ℕ

@@ -6,15 +6,16 @@ use lib.Dec.{eqb}
 use lib.IntN.{pos}
 use Rattle.statement.specs.declared.Statement.{Statement}
 use Rattle.writers.specs.Text.{ascii}
-use Rattle.printout.specs.Lines.{joined, line, flowgateLine, gtlLine, flowLines, paymentLines}
+use Rattle.printout.specs.Lines.{joined, line, flowgateLine, gtlLine, flowLines, settledLines, paymentLines}
 
--- the twelve lines of an accepted statement
+-- the twelve lines of an accepted statement, thirteen where the sheet has paths
 unfoldable pub listing : Statement → List ℕ
 listing s =
     joined (
     flowgateLine (s .name)
     ∷ gtlLine (s .gtl) (s .«first_remainder») (s .«second_remainder»)
     ∷ flowLines (s .parallel) (s .shadow) (s .common) (s .noncommon) (s .market)
+    ∷ settledLines (s .«has_paths») (s .settled)
     ∷ paymentLines (s .entitlement) (s .price) (s .amount) (s .nyiso) (s .pjm)
     ∷ []
     )

@@ -23,8 +23,8 @@ module _ (c : tie.After-put-listing) where
   accepted : s .refusal ≡ 0
   accepted = c .before .before .if1 .left
 
-  lines : take (495 - c .put-listing .result) (drop (c .put-listing .result) (c .put-listing .last .1 .0)) ≡ listing s
-  lines = whole (c .put-listing .ensures) (omega (arith, length-replicate {A = ℕ} 495 0))
+  lines : take (528 - c .put-listing .result) (drop (c .put-listing .result) (c .put-listing .last .1 .0)) ≡ listing s
+  lines = whole (c .put-listing .ensures) (omega (arith, length-replicate {A = ℕ} 528 0))
 
 returns : tie.Need-returns
 returns c = let i = c .before .before .before .args in refused-before (i .s) (i .out .now) (c .if1 .taken)

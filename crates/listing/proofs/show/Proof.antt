@@ -29,7 +29,7 @@ put-requires c κs = search needs
 returns : tie.Need-returns
 returns c =
     let p = c .before .before .before .before .before in
-    renamed (whole (p .put-shown .ensures) (omega (arith, length-replicate {A = ℕ} 495 0))) (c .put .ensures)
+    renamed (whole (p .put-shown .ensures) (omega (arith, length-replicate {A = ℕ} 528 0))) (c .put .ensures)
 
 pub show-spec : {M : Type 1} → statement M
 show-spec =
