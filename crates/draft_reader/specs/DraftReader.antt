@@ -1,4 +1,4 @@
--- What the reader of drafts gives of a sheet (document 02, request 3).
+-- What the reader of drafts gives of a sheet (document 02, requests 3 and 6).
 use Prim.Native.Nat.{ℕ}
 use mathlib.Core.List.{List}
 use Rattle.drafts.specs.Draft.{draftOf}

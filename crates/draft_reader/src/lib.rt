@@ -1,4 +1,4 @@
-// The reader of drafts (document 02, request 3): a sheet's draft, to be altered and written again, or rows 1 to 13.
+// The reader of drafts (document 02, requests 3 and 6): a sheet's draft, to be altered and written again, or rows 1 to 13 and 28.
 ghost use mathlib.Core.Path.{_≡_};
 ghost use Rattle.draft_reader.specs.DraftReader.{draftedFrom};
 use drafts::Draft;

@@ -7,7 +7,7 @@ use lib.Seq.{take-at}
 use Rattle.records.specs.declared.Place.{Place}
 use Rattle.records.specs.declared.Place.the-variants.{Proxy, Line}
 use Rattle.records.specs.declared.Point.{Point}
-use Rattle.records.specs.Content.{Content, noZone, noUnit, noPar, noFactor, head}
+use Rattle.records.specs.Content.{Content, noZone, noUnit, noPar, noFactor, noPath, noCirculation, head}
 use Rattle.records.specs.inner.Places.{atPlace}
 use Rattle.drafts.specs.Draft.{placeGiven, pointGiven, given, drafted, noDraftPoint, cells, draftOf}
 
@@ -35,4 +35,6 @@ given-back c one = λ j. record {
   points = (ap (map pointGiven) (cells-taken 33 (length (c .points)) noDraftPoint (map drafted (c .points)) (length-map (c .points) drafted)) ∙ points-back (c .points)) j;
   pars = cells-taken 9 (length (c .pars)) noPar (c .pars) refl j;
   factors = cells-taken 2889 (length (c .factors)) noFactor (c .factors) refl j;
+  paths = cells-taken 5 (length (c .paths)) noPath (c .paths) refl j;
+  circulations = cells-taken 2 (length (c .circulations)) noCirculation (c .circulations) refl j;
 }

@@ -1,4 +1,4 @@
--- A draft of a sheet and the content that it gives (document 02, request 3).
+-- A draft of a sheet and the content that it gives (document 02, requests 3 and 6).
 use Prim.Native.Nat.{ℕ, _-_}
 use mathlib.Core.Bool.{cond}
 use mathlib.Core.List.{List, [], _∷_, _++_, map}
@@ -7,7 +7,7 @@ use lib.ListN.{length, take, replicate}
 use Rattle.records.specs.declared.Place.{Place}
 use Rattle.records.specs.declared.Place.the-variants.{Proxy, Line}
 use Rattle.records.specs.declared.Point.{Point}
-use Rattle.records.specs.Content.{Content, noName, noZone, noUnit, noPar, noFactor, head}
+use Rattle.records.specs.Content.{Content, noName, noZone, noUnit, noPar, noFactor, noPath, noCirculation, head}
 use Rattle.drafts.specs.declared.DraftPoint.{DraftPoint}
 use Rattle.drafts.specs.declared.Draft.{Draft}
 
@@ -27,6 +27,8 @@ given d = record {
   points = map pointGiven (take (d .«point_count») (d .points));
   pars = take (d .«par_count») (d .pars);
   factors = take (d .«factor_count») (d .factors);
+  paths = take (d .«path_count») (d .paths);
+  circulations = take (d .«circulation_count») (d .circulations);
 }
 
 -- the other way: a place as numbers
@@ -62,4 +64,8 @@ draftOf c = record {
   pars = cells 9 noPar (c .pars);
   «factor_count» = length (c .factors);
   factors = cells 2889 noFactor (c .factors);
+  «path_count» = length (c .paths);
+  paths = cells 5 noPath (c .paths);
+  «circulation_count» = length (c .circulations);
+  circulations = cells 2 noCirculation (c .circulations);
 }

@@ -1,9 +1,11 @@
-// A draft of a sheet: what a planner alters and the writer takes (document 02, request 3).
+// A draft of a sheet: what a planner alters and the writer takes (document 02, requests 3 and 6).
 ghost use mathlib.Core.Path.{_≡_};
 ghost use Rattle.drafts.specs.Draft.{lineOf, zoneIn, drafted};
+use records::Circulation;
 use records::Factor;
 use records::Head;
 use records::Par;
+use records::Path;
 use records::Place;
 use records::Point;
 use records::Unit;
@@ -20,6 +22,10 @@ pub const PARS: usize = record_table::MOST_PARS + 1;
 
 // At most 2,888 factors are due.
 pub const FACTORS: usize = 2_888 + 1;
+
+pub const PATHS: usize = record_table::MOST_PATHS + 1;
+
+pub const CIRCULATIONS: usize = record_table::MOST_CIRCULATIONS + 1;
 
 // A point whose place is numbers: a proxy where `line` is 0, else a scheduled line into `zone`.
 #[repr(C)]
@@ -48,6 +54,10 @@ pub struct Draft {
     pub pars: [Par; PARS],
     pub factor_count: usize,
     pub factors: [Factor; FACTORS],
+    pub path_count: usize,
+    pub paths: [Path; PATHS],
+    pub circulation_count: usize,
+    pub circulations: [Circulation; CIRCULATIONS],
 }
 
 fn line_of(p: Place) -> u8

@@ -8,16 +8,17 @@ use lib.Dec.{eqb}
 use lib.ListN.{length}
 use borrow.Author.Tests.{eqb-true, eqb-false, ne-eqb}
 use Rattle.fields.proofs.Bytes.{Bytes}
-use Rattle.record_table.specs.Table.{byKind, bodyLength}
+use Rattle.record_table.specs.Table.{byKind, lastKind, bodyLength}
 use Rattle.record_table.proofs.ByKind.{kinds}
-use Rattle.records.specs.Bodies.{headOf, zoneOf, unitOf, pointOf, parOf, factorOf}
+use Rattle.records.specs.Bodies.{headOf, zoneOf, unitOf, pointOf, parOf, factorOf, pathOf, circulationOf}
 use Rattle.records.specs.Content.{Content, onlyIf, withRecord}
 use Rattle.layout.specs.inner.Places.{count}
 use Rattle.layout.specs.Layout.{layoutOf}
-use Rattle.sheet_bytes.specs.SheetBytes.{headBody, zoneBody, unitBody, pointBody, parBody, factorBody, all, sheetBytes}
+use Rattle.sheet_bytes.specs.SheetBytes.{headBody, zoneBody, unitBody, pointBody, parBody, factorBody, pathBody, circulationBody, all, sheetBytes}
 use Rattle.sheet_bytes.specs.inner.Returns.{Returns, Each, Returned}
 use Rattle.sheet_bytes.proofs.Sections.{each-more, all-more}
 use Rattle.sheet_bytes.proofs.RecordBodies.{head-written, zone-written, unit-written, point-written, par-written, factor-written}
+use Rattle.sheet_bytes.proofs.LakeBodies.{path-written, circulation-written}
 
 -- ---- parts that follow one another
 -- n parts from the j-th on
@@ -86,20 +87,28 @@ module _ (k : ℕ) (b : List ℕ) (e : length b ≡ bodyLength k) {A : Type 0} (
 abbrev part : Content → ℕ → List ℕ
 part c kind =
     byKind kind []
-    (all 1 headBody (c .heads) ∷ all 2 zoneBody (c .zones) ∷ all 3 unitBody (c .units) ∷ all 4 pointBody (c .points) ∷ all 5 parBody (c .pars) ∷ all 6 factorBody (c .factors) ∷ [])
+    (all 1 headBody (c .heads)
+    ∷ all 2 zoneBody (c .zones)
+    ∷ all 3 unitBody (c .units)
+    ∷ all 4 pointBody (c .points)
+    ∷ all 5 parBody (c .pars)
+    ∷ all 6 factorBody (c .factors)
+    ∷ all 7 pathBody (c .paths)
+    ∷ all 8 circulationBody (c .circulations)
+    ∷ [])
 
-sheet-joined : (c : Content) → sheetBytes c ≡ joined (part c) 1 6
+sheet-joined : (c : Content) → sheetBytes c ≡ joined (part c) 1 lastKind
 unfolding sheetBytes joined
-sheet-joined c = rw (append-nil (all 6 factorBody (c .factors))) refl
+sheet-joined c = rw (append-nil (all 8 circulationBody (c .circulations))) refl
 
-part-none : (c : Content) (kind : ℕ) → 1 ≤ kind → kind ≤ 6 → count (layoutOf c) kind ≡ 0 → part c kind ≡ []
+part-none : (c : Content) (kind : ℕ) → 1 ≤ kind → kind ≤ lastKind → count (layoutOf c) kind ≡ 0 → part c kind ≡ []
 unfolding layoutOf
 part-none c =
     kinds (λ (kind : ℕ). count (layoutOf c) kind ≡ 0 → part c kind ≡ [])
-    (all-none 1 headBody (c .heads)) (all-none 2 zoneBody (c .zones)) (all-none 3 unitBody (c .units)) (all-none 4 pointBody (c .points)) (all-none 5 parBody (c .pars)) (all-none 6 factorBody (c .factors))
+    (all-none 1 headBody (c .heads)) (all-none 2 zoneBody (c .zones)) (all-none 3 unitBody (c .units)) (all-none 4 pointBody (c .points)) (all-none 5 parBody (c .pars)) (all-none 6 factorBody (c .factors)) (all-none 7 pathBody (c .paths)) (all-none 8 circulationBody (c .circulations))
 
 module _ (c : Content) (k : ℕ) (b : List ℕ) (bytes : Bytes b) (e : length b ≡ bodyLength k) where
-  parts-more : (kind : ℕ) → 1 ≤ kind → kind ≤ 6 → part (withRecord c k b) kind ≡ part c kind ++ added (eqb k kind) (k ∷ b)
+  parts-more : (kind : ℕ) → 1 ≤ kind → kind ≤ lastKind → part (withRecord c k b) kind ≡ part c kind ++ added (eqb k kind) (k ∷ b)
   unfolding withRecord
   parts-more =
       kinds (λ (kind : ℕ). part (withRecord c k b) kind ≡ part c kind ++ added (eqb k kind) (k ∷ b))
@@ -109,13 +118,15 @@ module _ (c : Content) (k : ℕ) (b : List ℕ) (bytes : Bytes b) (e : length b 
       (part-more k b e 4 pointBody pointOf (point-written b bytes) (c .points))
       (part-more k b e 5 parBody parOf (par-written b bytes) (c .pars))
       (part-more k b e 6 factorBody factorOf (factor-written b bytes) (c .factors))
+      (part-more k b e 7 pathBody pathOf (path-written b bytes) (c .paths))
+      (part-more k b e 8 circulationBody circulationOf (circulation-written b bytes) (c .circulations))
 
   -- of the kinds above the record's own there are none
-  pub grows : 1 ≤ k → k ≤ 6 → ((j : ℕ) → k < j → j ≤ 6 → count (layoutOf c) j ≡ 0) → sheetBytes (withRecord c k b) ≡ sheetBytes c ++ (k ∷ b)
+  pub grows : 1 ≤ k → k ≤ lastKind → ((j : ℕ) → k < j → j ≤ lastKind → count (layoutOf c) j ≡ 0) → sheetBytes (withRecord c k b) ≡ sheetBytes c ++ (k ∷ b)
   grows low high above =
       rw (sheet-joined c, sheet-joined (withRecord c k b))
-      (join-same (part (withRecord c k b)) (λ i. part c i ++ added (eqb k i) (k ∷ b)) 1 6 (λ i g l. parts-more i g (omega arith))
-      ∙ join-more (part c) k (k ∷ b) 1 6 low (omega arith) (λ i g l. part-none c i (omega arith) (omega arith) (above i g (omega arith))))
+      (join-same (part (withRecord c k b)) (λ i. part c i ++ added (eqb k i) (k ∷ b)) 1 lastKind (λ i g l. parts-more i g (omega arith))
+      ∙ join-more (part c) k (k ∷ b) 1 lastKind low (omega arith) (λ i g l. part-none c i (omega arith) (omega arith) (above i g (omega arith))))
 
   pub returned-more : Returned c → Returned (withRecord c k b)
   unfolding withRecord
@@ -126,4 +137,6 @@ module _ (c : Content) (k : ℕ) (b : List ℕ) (bytes : Bytes b) (e : length b 
     points = returns-more k b e 4 pointBody pointOf (point-written b bytes) (c .points) (r .points);
     pars = returns-more k b e 5 parBody parOf (par-written b bytes) (c .pars) (r .pars);
     factors = returns-more k b e 6 factorBody factorOf (factor-written b bytes) (c .factors) (r .factors);
+    paths = returns-more k b e 7 pathBody pathOf (path-written b bytes) (c .paths) (r .paths);
+    circulations = returns-more k b e 8 circulationBody circulationOf (circulation-written b bytes) (c .circulations) (r .circulations);
   }

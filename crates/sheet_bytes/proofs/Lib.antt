@@ -1,5 +1,6 @@
 pub mod FieldPlaces
 pub mod RecordBodies
+pub mod LakeBodies
 pub mod Turns
 pub mod Steps
 pub mod Told

@@ -67,4 +67,4 @@ unmarked c e =
     let zones = turn-pass _ (c .zones) [] _ heads .1 in
     let units = turn-pass _ (c .units) [] _ zones .1 in
     let points = turn-pass _ (c .points) [] _ units .0 in
-    ap (λ (l : List Point). record { heads = c .heads; zones = c .zones; units = c .units; points = l; pars = c .pars; factors = c .factors }) (unmarked-points (length (c .zones)) (c .points) points)
+    ap (λ (l : List Point). record { heads = c .heads; zones = c .zones; units = c .units; points = l; pars = c .pars; factors = c .factors; paths = c .paths; circulations = c .circulations }) (unmarked-points (length (c .zones)) (c .points) points)

@@ -58,6 +58,6 @@ module _ (s : List ℕ) (h : Bytes s) where
       ∙ sym (more-taken at last c below e)
 
   pub passed-returned : {at last : ℕ} {c : Content} → Passed s at last c → Returned c
-  passed-returned none = record { heads = tt; zones = tt; units = tt; points = tt; pars = tt; factors = tt }
+  passed-returned none = record { heads = tt; zones = tt; units = tt; points = tt; pars = tt; factors = tt; paths = tt; circulations = tt }
   passed-returned (more {at} {last} {c} p below e) =
       returned-more c (byteAt s at) (body at last c below e) (body-bytes at last c below e) (body-long at last c below e) (passed-returned p)

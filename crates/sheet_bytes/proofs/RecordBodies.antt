@@ -1,4 +1,4 @@
--- A record and its body: each is had back from the other.
+-- A record and its body, kinds 1 to 6: each is had back from the other.
 use Prim.Native.Nat.{ℕ, _+_}
 use mathlib.Core.Path.{_≡_, refl, sym, ap, ap₂, _∙_}
 use mathlib.Core.Bool.{Bool, true, false, cond}
@@ -166,7 +166,7 @@ factor-returns f fits =
 -- ---- a record that was read has the body's bytes
 module _ (b : List ℕ) (h : Bytes b) where
   -- a part, and the field behind it
-  glue : (n m : ℕ) (p q : List ℕ) → p ≡ take n b → q ≡ take m (drop n b) → p ++ q ≡ take (n + m) b
+  pub glue : (n m : ℕ) (p q : List ℕ) → p ≡ take n b → q ≡ take m (drop n b) → p ++ q ≡ take (n + m) b
   glue n m p q e f = ap₂ (λ (x y : List ℕ). x ++ y) e f ∙ sym (take-add n m b)
 
   module _ (e : length b ≡ 27) where

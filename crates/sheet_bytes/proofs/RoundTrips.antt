@@ -50,11 +50,11 @@ pub sheet-head : (s : List ℕ) (l : Layout) → readSheet s ≡ Accepted l → 
 sheet-head s l e = single (contentOf s .heads) (one-head s l e)
 
 module _ (s : List ℕ) (bytes : Bytes s) (l : Layout) (e : readSheet s ≡ Accepted l) where
-  -- a sheet that passes rows 1 to 13 is written again byte for byte
+  -- a sheet that passes rows 1 to 13 and 28 is written again byte for byte
   pub back : sheetBytes (contentOf s) ≡ s
   back = passed-bytes s bytes (passed s l e) ∙ take-length s
 
-  -- and its content meets none of rows 5 to 13
+  -- and its content meets none of rows 5 to 13 and 28
   pub back-row : contentRow (contentOf s) ≡ 0
   back-row =
       sym (told (contentOf s) (head (contentOf s)) (sheet-head s l e) (passed-returned s bytes (passed s l e)) .number-is)

@@ -13,13 +13,15 @@ use Rattle.records.specs.declared.Unit.{Unit}
 use Rattle.records.specs.declared.Point.{Point}
 use Rattle.records.specs.declared.Par.{Par}
 use Rattle.records.specs.declared.Factor.{Factor}
-use Rattle.records.specs.Bodies.{headOf, zoneOf, unitOf, pointOf, parOf, factorOf}
+use Rattle.records.specs.declared.Path.{Path}
+use Rattle.records.specs.declared.Circulation.{Circulation}
+use Rattle.records.specs.Bodies.{headOf, zoneOf, unitOf, pointOf, parOf, factorOf, pathOf, circulationOf}
 use Rattle.records.specs.Content.{Content, noContent, countOf, namesOf, withRecord}
 use Rattle.due_factors.specs.Due.{due}
-use Rattle.record_rows.specs.Rows.{firstRow, bodyRow, headRow, zoneRow, unitRow, pointRow, parRow, factorRow, lastRow}
+use Rattle.record_rows.specs.Rows.{firstRow, bodyRow, headRow, zoneRow, unitRow, pointRow, parRow, factorRow, pathRow, lastRow}
 use Rattle.sheet.specs.Sheet.{holds, recordsFrom, reading}
-use Rattle.sheet_bytes.specs.SheetBytes.{headBody, zoneBody, unitBody, pointBody, parBody, factorBody, all, sheetBytes}
-use Rattle.sheet_bytes.specs.ContentRow.{thenRow, inTurn, namedRow, contentRow}
+use Rattle.sheet_bytes.specs.SheetBytes.{headBody, zoneBody, unitBody, pointBody, parBody, factorBody, pathBody, circulationBody, all, sheetBytes}
+use Rattle.sheet_bytes.specs.ContentRow.{thenRow, inTurn, namedRow, circulationBehind, contentRow}
 use Rattle.sheet_bytes.specs.inner.Returns.{Returns, Each, Returned}
 use Rattle.sheet_bytes.proofs.Turns.{then-none}
 use Rattle.sheet_bytes.proofs.Steps.{judged, step, Tells, tells-held, tells-unless, section}
@@ -48,24 +50,36 @@ module _ (c : Content) (h : Head) (one : c .heads ≡ h ∷ []) (returned : Retu
   From kind d bytes number = (at last : ℕ) → last ≤ kind → Tells (recordsFrom at 0 last d bytes) number c
 
   -- the content as far as the records of a kind have been read
+  abbrev with-circulations : List Circulation → Content
+  with-circulations l = record { heads = c .heads; zones = c .zones; units = c .units; points = c .points; pars = c .pars; factors = c .factors; paths = c .paths; circulations = l }
+
+  abbrev with-paths : List Path → Content
+  with-paths l = record { heads = c .heads; zones = c .zones; units = c .units; points = c .points; pars = c .pars; factors = c .factors; paths = l; circulations = [] }
+
   abbrev with-factors : List Factor → Content
-  with-factors l = record { heads = c .heads; zones = c .zones; units = c .units; points = c .points; pars = c .pars; factors = l }
+  with-factors l = record { heads = c .heads; zones = c .zones; units = c .units; points = c .points; pars = c .pars; factors = l; paths = []; circulations = [] }
 
   abbrev with-pars : List Par → Content
-  with-pars l = record { heads = c .heads; zones = c .zones; units = c .units; points = c .points; pars = l; factors = [] }
+  with-pars l = record { heads = c .heads; zones = c .zones; units = c .units; points = c .points; pars = l; factors = []; paths = []; circulations = [] }
 
   abbrev with-points : List Point → Content
-  with-points l = record { heads = c .heads; zones = c .zones; units = c .units; points = l; pars = []; factors = [] }
+  with-points l = record { heads = c .heads; zones = c .zones; units = c .units; points = l; pars = []; factors = []; paths = []; circulations = [] }
 
   abbrev with-units : List Unit → Content
-  with-units l = record { heads = c .heads; zones = c .zones; units = l; points = []; pars = []; factors = [] }
+  with-units l = record { heads = c .heads; zones = c .zones; units = l; points = []; pars = []; factors = []; paths = []; circulations = [] }
 
   abbrev with-zones : List Zone → Content
-  with-zones l = record { heads = c .heads; zones = l; units = []; points = []; pars = []; factors = [] }
+  with-zones l = record { heads = c .heads; zones = l; units = []; points = []; pars = []; factors = []; paths = []; circulations = [] }
 
   -- their bytes and rows
+  abbrev circulations-on : List ℕ
+  circulations-on = all 8 circulationBody (c .circulations)
+
+  abbrev paths-on : List ℕ
+  paths-on = all 7 pathBody (c .paths) ++ circulations-on
+
   abbrev factors-on : List ℕ
-  factors-on = all 6 factorBody (c .factors)
+  factors-on = all 6 factorBody (c .factors) ++ paths-on
 
   abbrev pars-on : List ℕ
   pars-on = all 5 parBody (c .pars) ++ factors-on
@@ -79,8 +93,14 @@ module _ (c : Content) (h : Head) (one : c .heads ≡ h ∷ []) (returned : Retu
   abbrev zones-on : List ℕ
   zones-on = all 2 zoneBody (c .zones) ++ units-on
 
+  abbrev circulations-row : ℕ
+  circulations-row = inTurn circulationBehind [] (c .circulations) (lastRow c)
+
+  abbrev paths-row : ℕ
+  paths-row = inTurn (namedRow 7 (λ (p : Path). p .name) pathRow) [] (c .paths) circulations-row
+
   abbrev factors-row : ℕ
-  factors-row = inTurn (λ before f. factorRow (due c) (length before) f) [] (c .factors) (lastRow c)
+  factors-row = inTurn (λ before f. factorRow (due c) (length before) f) [] (c .factors) paths-row
 
   abbrev pars-row : ℕ
   pars-row = inTurn (namedRow 5 (λ (p : Par). p .name) parRow) [] (c .pars) factors-row
@@ -94,18 +114,34 @@ module _ (c : Content) (h : Head) (one : c .heads ≡ h ∷ []) (returned : Retu
   abbrev zones-row : ℕ
   zones-row = inTurn (namedRow 2 (λ (z : Zone). z .name) zoneRow) [] (c .zones) units-row
 
-  end-told : From 6 c [] (lastRow c)
+  end-told : From lastKind c [] (lastRow c)
   unfolding recordsFrom
   end-told at last o = rw (then-none (lastRow c)) at (tells-unless (lastRow c) at 0 (holds c) c (tells-held c))
 
+  circulations-told : From 8 (with-circulations []) circulations-on circulations-row
+  unfolding bodyRow withRecord
+  circulations-told at last o =
+      rw (append-nil circulations-on) at
+      (section 8 circulationBody circulationOf circulationBehind with-circulations (omega arith) (omega arith)
+      (λ before k r. rw (r .same) refl)
+      (λ before k r. rw (r .same, append-nil (c .heads), append-nil (c .zones), append-nil (c .units), append-nil (c .points), append-nil (c .pars), append-nil (c .factors), append-nil (c .paths)) refl)
+      [] (lastRow c) c (c .circulations) [] (returned .circulations) end-told at last o)
+
+  paths-told : From 7 (with-paths []) paths-on paths-row
+  unfolding namesOf pathOf bodyRow withRecord
+  paths-told =
+      named-section 7 (omega arith) (omega arith) pathBody pathOf (λ (p : Path). p .name) pathRow with-paths
+      (λ l. refl) (λ l. refl) (λ b. refl) (λ l repeated b. refl)
+      (λ l b. rw (append-nil (c .heads), append-nil (c .zones), append-nil (c .units), append-nil (c .points), append-nil (c .pars), append-nil (c .factors)) refl)
+      circulations-on circulations-row c (c .paths) (returned .paths) (λ at last o. circulations-told at last (omega arith))
+
   factors-told : From 6 (with-factors []) factors-on factors-row
   unfolding bodyRow withRecord
-  factors-told at last o =
-      rw (append-nil factors-on) at
-      (section 6 factorBody factorOf (λ before f. factorRow (due c) (length before) f) with-factors (omega arith) (omega arith)
+  factors-told =
+      section 6 factorBody factorOf (λ before f. factorRow (due c) (length before) f) with-factors (omega arith) (omega arith)
       (λ before f r. rw (r .same) refl)
       (λ before f r. rw (r .same, append-nil (c .heads), append-nil (c .zones), append-nil (c .units), append-nil (c .points), append-nil (c .pars)) refl)
-      [] (lastRow c) c (c .factors) [] (returned .factors) end-told at last o)
+      paths-on paths-row c (c .factors) [] (returned .factors) (λ at last o. paths-told at last (omega arith))
 
   pars-told : From 5 (with-pars []) pars-on pars-row
   unfolding namesOf parOf bodyRow withRecord
@@ -145,8 +181,8 @@ module _ (c : Content) (h : Head) (one : c .heads ≡ h ∷ []) (returned : Retu
   head-taken : withRecord noContent 1 (headBody h) ≡ with-zones []
   unfolding withRecord
   head-taken =
-      ap (λ (h : Head). record { heads = h ∷ []; zones = []; units = []; points = []; pars = []; factors = [] }) (head-returned .0 .same)
-      ∙ sym (ap (λ (l : List Head). record { heads = l; zones = []; units = []; points = []; pars = []; factors = [] }) one)
+      ap (λ (h : Head). record { heads = h ∷ []; zones = []; units = []; points = []; pars = []; factors = []; paths = []; circulations = [] }) (head-returned .0 .same)
+      ∙ sym (ap (λ (l : List Head). record { heads = l; zones = []; units = []; points = []; pars = []; factors = []; paths = []; circulations = [] }) one)
 
   head-judged : judged noContent 1 (headBody h) ≡ headRow h
   unfolding bodyRow

@@ -1,4 +1,4 @@
--- The bytes of a sheet with a content (document 01, the table of 'The interval sheet'; document 02, request 3).
+-- The bytes of a sheet with a content (document 01, the table of 'The interval sheet'; document 02, requests 3 and 6).
 use Prim.Native.Nat.{ℕ}
 use mathlib.Core.List.{List, [], _∷_, _++_}
 use Rattle.field_writers.specs.FieldBytes.{bytes16, bytes32, signed16, signed32}
@@ -10,6 +10,8 @@ use Rattle.records.specs.declared.Place.the-variants.{Proxy, Line}
 use Rattle.records.specs.declared.Point.{Point}
 use Rattle.records.specs.declared.Par.{Par}
 use Rattle.records.specs.declared.Factor.{Factor}
+use Rattle.records.specs.declared.Path.{Path}
+use Rattle.records.specs.declared.Circulation.{Circulation}
 use Rattle.records.specs.Content.{Content}
 
 -- a place: 0 for a proxy, else the zone's number. No byte says a scheduled line into zone 0, which row 8 refuses
@@ -36,6 +38,12 @@ parBody p = ((p .name ++ (p .class ∷ [])) ++ signed32 (p .actual)) ++ signed32
 unfoldable pub factorBody : Factor → List ℕ
 factorBody f = (((f .target ∷ []) ++ (f .subject ∷ [])) ++ bytes16 (f .index)) ++ signed16 (f .factor)
 
+unfoldable pub pathBody : Path → List ℕ
+pathBody p = (p .name ++ signed32 (p .flow)) ++ signed16 (p .factor)
+
+unfoldable pub circulationBody : Circulation → List ℕ
+circulationBody c = signed32 (c .flow)
+
 -- the records of a kind, one behind the other: of each the kind byte, then the body
 unfoldable pub all : {A : Type 0} → ℕ → (A → List ℕ) → List A → List ℕ
 all kind body [] = []
@@ -48,4 +56,6 @@ sheetBytes c =
     ++ (all 3 unitBody (c .units)
     ++ (all 4 pointBody (c .points)
     ++ (all 5 parBody (c .pars)
-    ++ all 6 factorBody (c .factors)))))
+    ++ (all 6 factorBody (c .factors)
+    ++ (all 7 pathBody (c .paths)
+    ++ all 8 circulationBody (c .circulations)))))))

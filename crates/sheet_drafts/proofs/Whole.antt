@@ -6,7 +6,9 @@ use Rattle.records.specs.declared.Zone.{Zone}
 use Rattle.records.specs.declared.Unit.{Unit}
 use Rattle.records.specs.declared.Par.{Par}
 use Rattle.records.specs.declared.Factor.{Factor}
-use Rattle.records.specs.Content.{Content, noZone, noUnit, noPar, noFactor, head}
+use Rattle.records.specs.declared.Path.{Path}
+use Rattle.records.specs.declared.Circulation.{Circulation}
+use Rattle.records.specs.Content.{Content, noZone, noUnit, noPar, noFactor, noPath, noCirculation, head}
 use Rattle.drafts.specs.declared.DraftPoint.{DraftPoint}
 use Rattle.drafts.specs.declared.Draft.{Draft}
 use Rattle.drafts.specs.Draft.{cells, drafted, noDraftPoint, draftOf}
@@ -14,8 +16,8 @@ use Rattle.layout.specs.declared.Layout.{Layout}
 use Rattle.sheet.proofs.Accepted.{Counts}
 
 -- the parts of a draft, with counts as in a layout
-abbrev pub parts : Head → Layout → List Zone → List Unit → List DraftPoint → List Par → List Factor → Draft
-parts h n z u p a f = record {
+abbrev pub parts : Head → Layout → List Zone → List Unit → List DraftPoint → List Par → List Factor → List Path → List Circulation → Draft
+parts h n z u p a f q k = record {
   head = h;
   «zone_count» = n .zones;
   zones = z;
@@ -27,22 +29,31 @@ parts h n z u p a f = record {
   pars = a;
   «factor_count» = n .factors;
   factors = f;
+  «path_count» = n .paths;
+  paths = q;
+  «circulation_count» = n .circulations;
+  circulations = k;
 }
 
-pub joined : (c : Content) {h : Head} {n : Layout} {z : List Zone} {u : List Unit} {p : List DraftPoint} {a : List Par} {f : List Factor}
+pub joined : (c : Content) {h : Head} {n : Layout} {z : List Zone} {u : List Unit} {p : List DraftPoint} {a : List Par} {f : List Factor} {q : List Path} {k : List Circulation}
     → Counts n c → h ≡ head c → z ≡ cells 33 noZone (c .zones) → u ≡ cells 257 noUnit (c .units) → p ≡ cells 33 noDraftPoint (map drafted (c .points))
-    → a ≡ cells 9 noPar (c .pars) → f ≡ cells 2889 noFactor (c .factors) → parts h n z u p a f ≡ draftOf c
+    → a ≡ cells 9 noPar (c .pars) → f ≡ cells 2889 noFactor (c .factors) → q ≡ cells 5 noPath (c .paths) → k ≡ cells 2 noCirculation (c .circulations)
+    → parts h n z u p a f q k ≡ draftOf c
 unfolding draftOf
-joined c k eh ez eu ep ea ef = λ j. record {
+joined c n eh ez eu ep ea ef eq ek = λ j. record {
   head = eh j;
-  «zone_count» = k .zones j;
+  «zone_count» = n .zones j;
   zones = ez j;
-  «unit_count» = k .units j;
+  «unit_count» = n .units j;
   units = eu j;
-  «point_count» = k .points j;
+  «point_count» = n .points j;
   points = ep j;
-  «par_count» = k .pars j;
+  «par_count» = n .pars j;
   pars = ea j;
-  «factor_count» = k .factors j;
+  «factor_count» = n .factors j;
   factors = ef j;
+  «path_count» = n .paths j;
+  paths = eq j;
+  «circulation_count» = n .circulations j;
+  circulations = ek j;
 }

@@ -1,4 +1,6 @@
 // A sheet's draft: its records in arrays, with zeros behind them; and a draft of zeros.
+mod lake;
+
 ghost use mathlib.Core.Path.{_≡_};
 ghost use mathlib.Core.List.{[], map};
 ghost use Prim.Native.Nat.{_<_};
@@ -94,6 +96,8 @@ pub fn no_draft() -> Draft
     let points = no_points();
     let pars = no_pars();
     let factors = no_factors();
+    let paths = lake::no_paths();
+    let circulations = lake::no_circulations();
     Draft {
         head,
         zone_count: 0,
@@ -106,6 +110,10 @@ pub fn no_draft() -> Draft
         pars,
         factor_count: 0,
         factors,
+        path_count: 0,
+        paths,
+        circulation_count: 0,
+        circulations,
     }
 }
 
@@ -191,6 +199,8 @@ pub fn draft_of(s: &[u8], l: Layout) -> Draft
     let points = points_of(s, l);
     let pars = pars_of(s, l);
     let factors = factors_of(s, l);
+    let paths = lake::paths_of(s, l);
+    let circulations = lake::circulations_of(s, l);
     Draft {
         head,
         zone_count: l.zones,
@@ -203,5 +213,9 @@ pub fn draft_of(s: &[u8], l: Layout) -> Draft
         pars,
         factor_count: l.factors,
         factors,
+        path_count: l.paths,
+        paths,
+        circulation_count: l.circulations,
+        circulations,
     }
 }

@@ -1,4 +1,4 @@
--- What the writer of sheets answers and leaves (document 02, request 3).
+-- What the writer of sheets answers and leaves (document 02, requests 3 and 6).
 use Prim.Native.Nat.{ℕ}
 use mathlib.Core.Bool.{cond}
 use mathlib.Core.List.{List, []}
@@ -11,7 +11,7 @@ use Rattle.sheet_bytes.specs.SheetBytes.{sheetBytes}
 use Rattle.sheet_bytes.specs.ContentRow.{thenRow, contentRow}
 use Rattle.sheet_writer.specs.declared.Written.{Written}
 
--- rows 5 to 13; then 27, the output buffer is shorter than the sheet
+-- rows 5 to 13 and 28; then 27, the output buffer is shorter than the sheet
 unfoldable pub refusalFor : Content → List ℕ → ℕ
 refusalFor c out = thenRow (contentRow c) (row 27 (ltb (length out) (length (sheetBytes c))) 0)
 

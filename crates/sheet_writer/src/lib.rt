@@ -1,4 +1,4 @@
-// The writer of sheets (document 02, request 3): a draft as a sheet, or rows 5 to 13, or 27.
+// The writer of sheets (document 02, requests 3 and 6): a draft as a sheet, or rows 5 to 13, 28, or 27.
 ghost use mathlib.Core.Path.{_≡_};
 ghost use Prim.Native.Nat.{_≤_};
 ghost use lib.ListN.{length};
@@ -15,6 +15,7 @@ ghost use Rattle.sheet_writer.specs.inner.Given.{atMost};
 use drafts::Draft;
 use flow_sections::put_flows;
 use grid_sections::put_grid;
+use lake_sections::put_lake;
 
 // How many bytes all records of a draft have at most, surplus ones included.
 const ROOM: usize = record_table::HEAD_BODY
@@ -23,7 +24,9 @@ const ROOM: usize = record_table::HEAD_BODY
     + (record_table::UNIT_BODY + 1) * drafts::UNITS
     + (record_table::POINT_BODY + 1) * drafts::POINTS
     + (record_table::PAR_BODY + 1) * drafts::PARS
-    + (record_table::FACTOR_BODY + 1) * drafts::FACTORS;
+    + (record_table::FACTOR_BODY + 1) * drafts::FACTORS
+    + (record_table::PATH_BODY + 1) * drafts::PATHS
+    + (record_table::CIRCULATION_BODY + 1) * drafts::CIRCULATIONS;
 
 // 0 and the sheet's length, or a refusal's number and 0.
 #[repr(C)]
@@ -51,13 +54,18 @@ fn put_sheet(d: Draft, out: &mut [u8]) -> usize
     let points = d.points;
     let pars = d.pars;
     let factors = d.factors;
+    let paths = d.paths;
+    let circulations = d.circulations;
     let z = at_most(d.zone_count, drafts::ZONES);
     let u = at_most(d.unit_count, drafts::UNITS);
     let p = at_most(d.point_count, drafts::POINTS);
     let a = at_most(d.par_count, drafts::PARS);
     let f = at_most(d.factor_count, drafts::FACTORS);
+    let q = at_most(d.path_count, drafts::PATHS);
+    let k = at_most(d.circulation_count, drafts::CIRCULATIONS);
     let mut n = put_grid(head, zones, z, units, u, out);
     n += put_flows(points, p, pars, a, factors, f, &mut out[n..]);
+    n += put_lake(paths, q, circulations, k, &mut out[n..]);
     n
 }
 

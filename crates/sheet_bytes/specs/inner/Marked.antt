@@ -24,4 +24,4 @@ abbrev pub markedPoint : Point → Point
 markedPoint p = atPlace p (markedPlace (p .place))
 
 abbrev pub marked : Content → Content
-marked c = record { heads = c .heads; zones = c .zones; units = c .units; points = map markedPoint (c .points); pars = c .pars; factors = c .factors }
+marked c = record { heads = c .heads; zones = c .zones; units = c .units; points = map markedPoint (c .points); pars = c .pars; factors = c .factors; paths = c .paths; circulations = c .circulations }

@@ -4,9 +4,9 @@ use mathlib.Core.Path.{_≡_}
 use mathlib.Core.List.{List, [], _∷_}
 use lib.ListN.{length}
 use Rattle.record_table.specs.Table.{bodyLength}
-use Rattle.records.specs.Bodies.{headOf, zoneOf, unitOf, pointOf, parOf, factorOf}
+use Rattle.records.specs.Bodies.{headOf, zoneOf, unitOf, pointOf, parOf, factorOf, pathOf, circulationOf}
 use Rattle.records.specs.Content.{Content}
-use Rattle.sheet_bytes.specs.SheetBytes.{headBody, zoneBody, unitBody, pointBody, parBody, factorBody}
+use Rattle.sheet_bytes.specs.SheetBytes.{headBody, zoneBody, unitBody, pointBody, parBody, factorBody, pathBody, circulationBody}
 
 -- the body of a record of a kind is as long as the kind's, and read again is the record
 pub record Returns {A : Type 0} (kind : ℕ) (body : A → List ℕ) (of : List ℕ → A) (a : A) : Type 0 where
@@ -26,3 +26,5 @@ pub record Returned (c : Content) : Type 0 where
   pub points : Each (Returns 4 pointBody pointOf) (c .points)
   pub pars : Each (Returns 5 parBody parOf) (c .pars)
   pub factors : Each (Returns 6 factorBody factorOf) (c .factors)
+  pub paths : Each (Returns 7 pathBody pathOf) (c .paths)
+  pub circulations : Each (Returns 8 circulationBody circulationOf) (c .circulations)

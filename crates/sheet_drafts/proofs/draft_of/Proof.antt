@@ -25,12 +25,19 @@ pars-of-requires c κs = search needs
 factors-of-requires : tie.Need-factors-of-requires
 factors-of-requires c κs = search needs
 
+paths-of-requires : tie.Need-paths-of-requires
+paths-of-requires c κs = search needs
+
+circulations-of-requires : tie.Need-circulations-of-requires
+circulations-of-requires c κs = search needs
+
 returns : tie.Need-returns
 returns c =
-    let u = c .before .before .before in
+    let f = c .before .before in
+    let u = f .before .before .before in
     let p = u .before .before .before .before in
     joined (contentOf (now (p .args .s))) (counts _ _ (p .pre)) (u .before .before .head-at .ensures) (u .before .zones-of .ensures) (u .units-of .ensures)
-    (c .before .before .points-of .ensures) (c .before .pars-of .ensures) (c .factors-of .ensures)
+    (f .before .before .points-of .ensures) (f .before .pars-of .ensures) (f .factors-of .ensures) (c .before .paths-of .ensures) (c .circulations-of .ensures)
 
 pub draft-of-spec : {M : Type 1} → statement M
 draft-of-spec =
@@ -42,4 +49,6 @@ draft-of-spec =
     points-of-requires
     pars-of-requires
     factors-of-requires
+    paths-of-requires
+    circulations-of-requires
     returns)

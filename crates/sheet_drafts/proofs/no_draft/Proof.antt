@@ -21,10 +21,18 @@ no-pars-requires c κs = search needs
 no-factors-requires : tie.Need-no-factors-requires
 no-factors-requires c κs = search needs
 
+no-paths-requires : tie.Need-no-paths-requires
+no-paths-requires c κs = search needs
+
+no-circulations-requires : tie.Need-no-circulations-requires
+no-circulations-requires c κs = search needs
+
 returns : tie.Need-returns
 returns c =
-    let u = c .before .before .before in
-    joined noContent (record { heads = refl; zones = refl; units = refl; points = refl; pars = refl; factors = refl }) refl (u .before .no-zones .ensures) (u .no-units .ensures) (c .before .before .no-points .ensures) (c .before .no-pars .ensures) (c .no-factors .ensures)
+    let f = c .before .before in
+    let u = f .before .before .before in
+    joined noContent (record { heads = refl; zones = refl; units = refl; points = refl; pars = refl; factors = refl; paths = refl; circulations = refl }) refl (u .before .no-zones .ensures) (u .no-units .ensures)
+    (f .before .before .no-points .ensures) (f .before .no-pars .ensures) (f .no-factors .ensures) (c .before .no-paths .ensures) (c .no-circulations .ensures)
 
 pub no-draft-spec : {M : Type 1} → statement M
 no-draft-spec =
@@ -35,4 +43,6 @@ no-draft-spec =
     no-points-requires
     no-pars-requires
     no-factors-requires
+    no-paths-requires
+    no-circulations-requires
     returns)

@@ -1,5 +1,5 @@
 -- `put_sheet` meets its contract.
-use Prim.Native.Nat.{_+_, _*_, _≤_}
+use Prim.Native.Nat.{ℕ, _+_, _*_, _≤_}
 use native.Mathlib.Omega.{arith}
 use denote.Ref.{now}
 use lib.ListN.{length, length-map}
@@ -27,28 +27,61 @@ at-most-requires-4 c κs = search needs
 at-most-requires-5 : tie.Need-at-most-requires-5
 at-most-requires-5 c κs = search needs
 
-module _ (c : tie.After-at-most5) where
+at-most-requires-6 : tie.Need-at-most-requires-6
+at-most-requires-6 c κs = search needs
+
+at-most-requires-7 : tie.Need-at-most-requires-7
+at-most-requires-7 c κs = search needs
+
+module _ (c : tie.After-at-most7) where
   abbrev start : tie.Start
-  start = c .before .before .before .before .before .before .before .before .before .before .before .before
+  start = c .before .before .before .before .before .before .before .before .before .before .before .before .before .before .before .before
 
   abbrev draft : Draft
   draft = start .args .d
 
-  parts : Parts draft (c .before .before .before .before .at-most .result) (c .before .before .before .at-most2 .result) (c .before .before .at-most3 .result) (c .before .at-most4 .result) (c .at-most5 .result)
+  -- how many of each kind are written
+  abbrev z : ℕ
+  z = c .before .before .before .before .before .before .at-most .result
+
+  abbrev u : ℕ
+  u = c .before .before .before .before .before .at-most2 .result
+
+  abbrev p : ℕ
+  p = c .before .before .before .before .at-most3 .result
+
+  abbrev a : ℕ
+  a = c .before .before .before .at-most4 .result
+
+  abbrev f : ℕ
+  f = c .before .before .at-most5 .result
+
+  abbrev q : ℕ
+  q = c .before .at-most6 .result
+
+  abbrev k : ℕ
+  k = c .at-most7 .result
+
+  parts : Parts draft z u p a f q k
   parts =
       let g = start .good .0 .1 .1 in
       record {
-        zones = record { full = simp length-map at (g .1 .1 .0 .1 .0 .1); is = c .before .before .before .before .at-most .ensures };
-        units = record { full = simp length-map at (g .1 .1 .1 .1 .0 .1 .0 .1); is = c .before .before .before .at-most2 .ensures };
-        points = record { full = simp length-map at (g .1 .1 .1 .1 .1 .1 .0 .1 .0 .1); is = c .before .before .at-most3 .ensures };
-        pars = record { full = simp length-map at (g .1 .1 .1 .1 .1 .1 .1 .1 .0 .1 .0 .1); is = c .before .at-most4 .ensures };
-        factors = record { full = simp length-map at (g .1 .1 .1 .1 .1 .1 .1 .1 .1 .1 .0 .1 .0 .1); is = c .at-most5 .ensures };
+        zones = record { full = simp length-map at (g .1 .1 .0 .1 .0 .1); is = c .before .before .before .before .before .before .at-most .ensures };
+        units = record { full = simp length-map at (g .1 .1 .1 .1 .0 .1 .0 .1); is = c .before .before .before .before .before .at-most2 .ensures };
+        points = record { full = simp length-map at (g .1 .1 .1 .1 .1 .1 .0 .1 .0 .1); is = c .before .before .before .before .at-most3 .ensures };
+        pars = record { full = simp length-map at (g .1 .1 .1 .1 .1 .1 .1 .1 .0 .1 .0 .1); is = c .before .before .before .at-most4 .ensures };
+        factors = record { full = simp length-map at (g .1 .1 .1 .1 .1 .1 .1 .1 .1 .1 .0 .1 .0 .1); is = c .before .before .at-most5 .ensures };
+        paths = record { full = simp length-map at (g .1 .1 .1 .1 .1 .1 .1 .1 .1 .1 .1 .1 .0 .1 .0 .1); is = c .before .at-most6 .ensures };
+        circulations = record { full = simp length-map at (g .1 .1 .1 .1 .1 .1 .1 .1 .1 .1 .1 .1 .1 .1 .0 .1 .0 .1); is = c .at-most7 .ensures };
       }
 
-  total : size 1 + size 2 * c .before .before .before .before .at-most .result + size 3 * c .before .before .before .at-most2 .result + size 4 * c .before .before .at-most3 .result + size 5 * c .before .at-most4 .result + size 6 * c .at-most5 .result ≤ length (now (start .args .out))
+  abbrev bytes : ℕ
+  bytes = size 1 + size 2 * z + size 3 * u + size 4 * p + size 5 * a + size 6 * f + size 7 * q + size 8 * k
+
+  total : bytes ≤ length (now (start .args .out))
   total = omega (arith, given-extent parts, start .pre)
 
-  most : size 1 + size 2 * c .before .before .before .before .at-most .result + size 3 * c .before .before .before .at-most2 .result + size 4 * c .before .before .at-most3 .result + size 5 * c .before .at-most4 .result + size 6 * c .at-most5 .result ≤ mostGiven
+  most : bytes ≤ mostGiven
   most = omega (arith, given-extent parts, given-most parts)
 
 put-grid-requires : tie.Need-put-grid-requires
@@ -71,15 +104,33 @@ put-flows-requires c κs =
 add-n : tie.Need-add-n
 add-n c = record { fits = omega (arith, most (c .before .before .before .before .before .before .before .before)) }
 
+sub-put-lake : tie.Need-sub-put-lake
+sub-put-lake c = omega (arith, total (c .before .before .before .before .before .before .before .before))
+
+part-put-lake-start : tie.Need-part-put-lake-start
+part-put-lake-start c = omega (arith, total (c .before .before .before .before .before .before .before .before))
+
+part-put-lake-end : tie.Need-part-put-lake-end
+part-put-lake-end c = search needs
+
+put-lake-requires : tie.Need-put-lake-requires
+put-lake-requires c κs =
+    let h = parts (c .before .before .before .before .before .before .before .before .before) in
+    (part-most (h .paths), part-most (h .circulations), search (needs, total (c .before .before .before .before .before .before .before .before .before)))
+
+add-n-2 : tie.Need-add-n-2
+add-n-2 c = record { fits = omega (arith, most (c .before .before .before .before .before .before .before .before .before .before .before .before)) }
+
 same-length : tie.Need-same-length
 same-length c = search needs
 
 returns : tie.Need-returns
 returns c =
-    let h = parts (c .before .before .before .before .before .before .before .before) in
-    let grid = c .before .before .before .before .before .before .put-grid .ensures in
-    let flows = c .before .before .put-flows .ensures in
-    (renamed (given-bytes h) (next (grid .0) (flows .0)), (omega (arith, given-extent h, grid .1 .0, flows .1 .0), given-returned h (grid .1 .1) (flows .1 .1)))
+    let h = parts (c .before .before .before .before .before .before .before .before .before .before .before .before) in
+    let grid = c .before .before .before .before .before .before .before .before .before .before .put-grid .ensures in
+    let flows = c .before .before .before .before .before .before .put-flows .ensures in
+    let lake = c .before .before .put-lake .ensures in
+    (renamed (given-bytes h) (next (next (grid .0) (flows .0)) (lake .0)), (omega (arith, given-extent h, grid .1 .0, flows .1 .0, lake .1 .0), given-returned h (grid .1 .1) (flows .1 .1) (lake .1 .1)))
 
 pub put-sheet-spec : {M : Type 1} → statement M
 put-sheet-spec =
@@ -90,11 +141,18 @@ put-sheet-spec =
     at-most-requires-3
     at-most-requires-4
     at-most-requires-5
+    at-most-requires-6
+    at-most-requires-7
     put-grid-requires
     sub-put-flows
     part-put-flows-start
     part-put-flows-end
     put-flows-requires
     add-n
+    sub-put-lake
+    part-put-lake-start
+    part-put-lake-end
+    put-lake-requires
+    add-n-2
     same-length
     returns)

@@ -27,6 +27,7 @@ module _ (c : tie.After-bytes) where
   draft = c .before .before .args .d
 
   parts : Parts draft (atMost (draft .«zone_count») 33) (atMost (draft .«unit_count») 257) (atMost (draft .«point_count») 33) (atMost (draft .«par_count») 9) (atMost (draft .«factor_count») 2889)
+      (atMost (draft .«path_count») 5) (atMost (draft .«circulation_count») 2)
   parts =
       let g = c .before .before .good .0 .1 .1 in
       record {
@@ -35,6 +36,8 @@ module _ (c : tie.After-bytes) where
         points = record { full = simp length-map at (g .1 .1 .1 .1 .1 .1 .0 .1 .0 .1); is = refl };
         pars = record { full = simp length-map at (g .1 .1 .1 .1 .1 .1 .1 .1 .0 .1 .0 .1); is = refl };
         factors = record { full = simp length-map at (g .1 .1 .1 .1 .1 .1 .1 .1 .1 .1 .0 .1 .0 .1); is = refl };
+        paths = record { full = simp length-map at (g .1 .1 .1 .1 .1 .1 .1 .1 .1 .1 .1 .1 .0 .1 .0 .1); is = refl };
+        circulations = record { full = simp length-map at (g .1 .1 .1 .1 .1 .1 .1 .1 .1 .1 .1 .1 .1 .1 .0 .1 .0 .1); is = refl };
       }
 
 module _ (c : tie.After-number-of) where

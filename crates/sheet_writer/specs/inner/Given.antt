@@ -10,4 +10,4 @@ atMost n most = cond (ltb n most) n most
 
 -- a head and all cells of a draft's arrays
 abbrev pub mostGiven : ℕ
-mostGiven = size 1 + size 2 * 33 + size 3 * 257 + size 4 * 33 + size 5 * 9 + size 6 * 2889
+mostGiven = size 1 + size 2 * 33 + size 3 * 257 + size 4 * 33 + size 5 * 9 + size 6 * 2889 + size 7 * 5 + size 8 * 2
