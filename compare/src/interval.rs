@@ -5,7 +5,8 @@ use std::collections::HashSet;
 
 use second::draft;
 use second::layout::{
-    FACTORS, LOADS, MOST_PARS, MOST_POINTS, MOST_UNITS, MOST_ZONES, PRICES, SCHEDULES,
+    FACTORS, LAKE_FLOWS, LOADS, MOST_PARS, MOST_PATHS, MOST_POINTS, MOST_UNITS, MOST_ZONES, PRICES,
+    SCHEDULES,
 };
 use second::names::NameField;
 
@@ -78,6 +79,18 @@ pub struct Factor {
     pub value: i16,
 }
 
+#[derive(Clone)]
+pub struct Path {
+    pub name: NameField,
+    pub flow: i32,
+    pub factor: i16,
+}
+
+#[derive(Clone)]
+pub struct Circulation {
+    pub flow: i32,
+}
+
 /// A record of a sheet, field by field, sound or faulty.
 #[derive(Clone)]
 pub enum Record {
@@ -87,6 +100,8 @@ pub enum Record {
     Point(Point),
     Par(Par),
     Factor(Factor),
+    Path(Path),
+    Circulation(Circulation),
 }
 
 impl Record {
@@ -98,6 +113,8 @@ impl Record {
             Record::Point(it) => draft::point(it.name, it.class, it.place, it.schedules()),
             Record::Par(it) => draft::par(it.name, it.class, it.actual, it.target),
             Record::Factor(it) => draft::factor(it.target, it.subject, it.index, it.value),
+            Record::Path(it) => draft::path(it.name, it.flow, it.factor),
+            Record::Circulation(it) => draft::circulation(it.flow),
         }
     }
 
@@ -108,7 +125,8 @@ impl Record {
             Record::Unit(it) => Some(&mut it.name),
             Record::Point(it) => Some(&mut it.name),
             Record::Par(it) => Some(&mut it.name),
-            Record::Factor(_) => None,
+            Record::Path(it) => Some(&mut it.name),
+            Record::Factor(_) | Record::Circulation(_) => None,
         }
     }
 }
@@ -154,6 +172,8 @@ pub struct Interval {
     pub pars: Vec<Par>,
     pub flowgate: Factors,
     pub on_pars: Vec<Factors>,
+    pub paths: Vec<Path>,
+    pub circulations: Vec<Circulation>,
 }
 
 impl Interval {
@@ -175,6 +195,9 @@ impl Interval {
                 }
             }
         }
+        records.extend(self.paths.iter().cloned().map(Record::Path));
+        let circulations = self.circulations.iter().cloned();
+        records.extend(circulations.map(Record::Circulation));
         records
     }
 
@@ -232,7 +255,7 @@ impl Interval {
         self.pars.len() - 1
     }
 
-    /// Gives the k-th zone, unit, point and PAR the k-th name, from 0.
+    /// Gives the k-th zone, unit, point, PAR and path the k-th name, from 0.
     pub fn rename(&mut self, name: impl Fn(usize) -> NameField) {
         let zones = self.zones.iter_mut().map(|zone| &mut zone.name);
         zones.enumerate().for_each(|(k, to)| *to = name(k));
@@ -242,6 +265,8 @@ impl Interval {
         points.enumerate().for_each(|(k, to)| *to = name(k));
         let pars = self.pars.iter_mut().map(|par| &mut par.name);
         pars.enumerate().for_each(|(k, to)| *to = name(k));
+        let paths = self.paths.iter_mut().map(|path| &mut path.name);
+        paths.enumerate().for_each(|(k, to)| *to = name(k));
     }
 
     /// Sets all factors of units and zones to zero, so that no flow is rounded.
@@ -435,18 +460,15 @@ fn frame(chance: &mut Chance, sizes: Sizes) -> Interval {
         output: 0,
     });
     let mut interval = Interval {
-        head: Head {
-            name: names(chance, 1)[0],
-            monitoring: chance.pick(&[1, 2]),
-            seconds: chance.pick(&[1, 300, 300, 600, 899, 900]),
-            prices: [price(chance), price(chance)],
-        },
+        head: head(chance),
         zones,
         units: units.collect(),
         points: Vec::new(),
         pars: Vec::new(),
         flowgate: Factors::default(),
         on_pars: Vec::new(),
+        paths: Vec::new(),
+        circulations: Vec::new(),
     };
     interval.flowgate.units = vec![0; sizes.units];
     interval.flowgate.zones = vec![0; sizes.zones];
@@ -459,6 +481,15 @@ fn frame(chance: &mut Chance, sizes: Sizes) -> Interval {
         interval.pars[par].class = chance.pick(&[1, 2]);
     }
     interval
+}
+
+fn head(chance: &mut Chance) -> Head {
+    Head {
+        name: names(chance, 1)[0],
+        monitoring: chance.pick(&[1, 2]),
+        seconds: chance.pick(&[1, 300, 300, 600, 899, 900]),
+        prices: [price(chance), price(chance)],
+    }
 }
 
 /// 6000 with 300 s and 2000 with 900 s make ties of odd differences.
@@ -547,6 +578,28 @@ fn draw_factors(chance: &mut Chance, interval: &mut Interval, largest: i64) {
     }
 }
 
+/// Adds four paths and a circulation. A factor of zero takes a path out of the impact,
+/// and an odd circulation with factors of an odd sum makes a half of it.
+pub fn add_lake(chance: &mut Chance, interval: &mut Interval, scale: Scale) {
+    let reach = scale.power.min(*LAKE_FLOWS.end());
+    let names = names(chance, MOST_PATHS);
+    let paths = names.into_iter().map(|name| Path {
+        name,
+        flow: signed_value(chance, reach) as i32,
+        factor: signed_value(chance, scale.factor) as i16,
+    });
+    interval.paths = paths.collect();
+    let flow = signed_value(chance, reach) as i32;
+    interval.circulations = vec![Circulation { flow }];
+}
+
+/// The same for one interval in so many.
+pub fn add_lake_to_one_in(count: usize, chance: &mut Chance, it: &mut Interval, scale: Scale) {
+    if chance.one_in(count) {
+        add_lake(chance, it, scale);
+    }
+}
+
 #[cfg(test)]
 mod tests {
     use super::*;
@@ -556,7 +609,9 @@ mod tests {
         for input in 0..300 {
             let chance = &mut Chance::of(3, input);
             let (sizes, scale) = (Sizes::drawn(chance), Scale::drawn(chance));
-            let sheet = drawn(chance, sizes, scale).records().concat();
+            let mut interval = drawn(chance, sizes, scale);
+            add_lake_to_one_in(2, chance, &mut interval, scale);
+            let sheet = interval.records().concat();
             assert!(second::reader::read(&sheet).is_ok());
         }
     }
@@ -564,7 +619,9 @@ mod tests {
     #[test]
     fn the_longest_sheet_has_its_length() {
         let chance = &mut Chance::of(4, 0);
-        let longest = drawn(chance, Sizes::LONGEST, Scale::FULL);
+        let mut longest = drawn(chance, Sizes::LONGEST, Scale::FULL);
         assert_eq!(longest.records().concat().len(), 28_004);
+        add_lake(chance, &mut longest, Scale::FULL);
+        assert_eq!(longest.records().concat().len(), 28_101);
     }
 }

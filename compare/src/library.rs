@@ -1,11 +1,10 @@
 //! The proved settlement behind its C interface.
 
-use second::listing::LONGEST_LISTING;
 use second::names::NameField;
 
 use crate::sides::drafts::{Draft, Drafted, Drafts, Written};
 use crate::sides::hours::{Changed, Hour, HourTotals, Hours};
-use crate::sides::{EntitlementAnswer, Figures, Printed, ReadAnswer, Side};
+use crate::sides::{EntitlementAnswer, Figures, LISTING_ROOM, Printed, ReadAnswer, Side};
 
 unsafe extern "C" {
     fn m2m_settle(sheet: *const u8, sheet_len: usize, list: *const u8, list_len: usize) -> Figures;
@@ -106,6 +105,6 @@ impl Drafts for Library {
         let mut drafted = self.read_draft(sheet);
         drafted.draft.points[0].import = import;
         let length = self.write_draft(&drafted.draft, out).length;
-        self.report(&out[..length], list, &mut [0; LONGEST_LISTING])
+        self.report(&out[..length], list, &mut [0; LISTING_ROOM])
     }
 }

@@ -9,6 +9,9 @@ use second::names::NameField;
 use drafts::Drafts;
 use hours::Hours;
 
+/// A buffer that is long enough for every listing.
+pub const LISTING_ROOM: usize = 400;
+
 /// A statement; a refused one has the number and zeros everywhere else.
 #[derive(Clone, Copy, Debug, Default, PartialEq, Eq)]
 #[repr(C)]
@@ -16,6 +19,8 @@ pub struct Figures {
     /// 0 on an accepted one.
     pub refusal: u8,
     pub name: NameField,
+    /// 1 where the sheet has paths and a circulation, else 0.
+    pub has_paths: u8,
     pub gtl: i64,
     pub first_remainder: i64,
     pub second_remainder: i64,
@@ -24,6 +29,7 @@ pub struct Figures {
     pub common: i64,
     pub noncommon: i64,
     pub market: i64,
+    pub settled: i64,
     pub entitlement: i64,
     pub price: i64,
     pub amount: i64,
@@ -48,7 +54,7 @@ pub struct Printed {
     pub length: usize,
 }
 
-/// Rows 1 to 13: the counts of a sheet that passes, or the number and place of the
+/// Rows 1 to 13 and 28: the counts of a sheet that passes, or the number and place of the
 /// offending record and zeros.
 #[derive(Clone, Copy, Debug, Default, PartialEq, Eq)]
 #[repr(C)]
@@ -60,6 +66,8 @@ pub struct ReadAnswer {
     pub points: usize,
     pub pars: usize,
     pub factors: usize,
+    pub paths: usize,
+    pub circulations: usize,
 }
 
 /// Rows 14 and 15: the value in tenths of a MW, 0 with a refusal.
@@ -83,6 +91,7 @@ pub trait Side: Hours + Drafts {
 pub struct Rounded {
     pub targets: Vec<(usize, [i64; 3])>,
     pub market: i64,
+    pub settled: i64,
     pub amount: i64,
     /// In tenths of a MW.
     pub entitlement: i64,
@@ -121,11 +130,14 @@ macro_rules! reference {
                     Ok($second::Statement {
                         name,
                         flow,
+                        settled,
+                        has_paths,
                         entitlement,
                         payment,
                     }) => $crate::sides::Figures {
                         refusal: 0,
                         name: name.field(),
+                        has_paths: has_paths.into(),
                         gtl: flow.generation_to_load.flow.0,
                         first_remainder: flow.generation_to_load.first_remainder.0,
                         second_remainder: flow.generation_to_load.second_remainder.0,
@@ -134,6 +146,7 @@ macro_rules! reference {
                         common: flow.common_redirect.0,
                         noncommon: flow.non_common_redirect.0,
                         market: flow.market.0,
+                        settled: settled.0,
                         entitlement: entitlement.0,
                         price: payment.price.0,
                         amount: payment.amount.0,
@@ -168,6 +181,8 @@ macro_rules! reference {
                         points: sheet.points.len(),
                         pars: sheet.pars.len(),
                         factors: sheet.factor_records.len(),
+                        paths: sheet.lake.as_ref().map_or(0, |it| it.paths.len()),
+                        circulations: sheet.lake.iter().count(),
                     },
                     Err(refused) => $crate::sides::ReadAnswer {
                         refusal: refused.refusal.number(),
@@ -208,6 +223,7 @@ macro_rules! reference {
                 let figures = $second::exact::Rounded {
                     targets: targets.map(|(target, it)| (*target, gtl(*it))).collect(),
                     market: Watts(rounded.market),
+                    settled: Watts(rounded.settled),
                     amount: Amount(rounded.amount),
                 };
                 $second::exact::judge(&sheet, Power(rounded.entitlement), &figures)

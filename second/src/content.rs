@@ -4,7 +4,7 @@
 use crate::layout::{Fields, Kind};
 use crate::names::NameField;
 use crate::reader::{Refused, read};
-use crate::sheet::{self, FACTOR_RECORD, Place, Sheet};
+use crate::sheet::{self, FACTOR_RECORD, Lake, Place, Sheet};
 
 #[derive(Clone, Copy, Debug, PartialEq, Eq)]
 pub struct Head {
@@ -57,6 +57,18 @@ pub struct Factor {
     pub value: i16,
 }
 
+#[derive(Clone, Copy, Debug, PartialEq, Eq)]
+pub struct Path {
+    pub name: NameField,
+    pub flow: i32,
+    pub factor: i16,
+}
+
+#[derive(Clone, Copy, Debug, PartialEq, Eq)]
+pub struct Circulation {
+    pub flow: i32,
+}
+
 #[derive(Clone, Debug, PartialEq, Eq)]
 pub struct Content {
     pub head: Head,
@@ -65,6 +77,8 @@ pub struct Content {
     pub points: Vec<Point>,
     pub pars: Vec<Par>,
     pub factors: Vec<Factor>,
+    pub paths: Vec<Path>,
+    pub circulations: Vec<Circulation>,
 }
 
 /// Reads a sheet for a writer.
@@ -74,6 +88,7 @@ pub fn content(sheet: &[u8]) -> Result<Content, Refused> {
 
 impl Content {
     fn of(sheet: &Sheet) -> Self {
+        let lake = &sheet.lake;
         Content {
             head: head(&sheet.head),
             zones: sheet.zones.iter().map(zone).collect(),
@@ -81,6 +96,8 @@ impl Content {
             points: sheet.points.iter().map(point).collect(),
             pars: sheet.pars.iter().map(par).collect(),
             factors: sheet.factor_records.iter().map(factor).collect(),
+            paths: lake.iter().flat_map(|it| &it.paths).map(path).collect(),
+            circulations: lake.iter().map(circulation).collect(),
         }
     }
 
@@ -104,6 +121,8 @@ impl Content {
             (Kind::Point, points),
             (Kind::Par, pars),
             (Kind::Factor, self.factors.len()),
+            (Kind::Path, self.paths.len()),
+            (Kind::Circulation, self.circulations.len()),
         ];
         let lengths = records.map(|(kind, count)| (1 + kind.body()) * count);
         lengths.into_iter().sum()
@@ -166,5 +185,19 @@ fn factor(record: &[u8; FACTOR_RECORD]) -> Factor {
         subject: fields.byte(),
         index: fields.unsigned_2() as u16,
         value: fields.signed_2() as i16,
+    }
+}
+
+fn path(path: &sheet::Path) -> Path {
+    Path {
+        name: path.name.field(),
+        flow: path.flow.0 as i32,
+        factor: path.factor.0 as i16,
+    }
+}
+
+fn circulation(lake: &Lake) -> Circulation {
+    Circulation {
+        flow: lake.circulation.0 as i32,
     }
 }

@@ -1,15 +1,15 @@
-//! Rows 5 to 13 on what a writer is given: each record by its own rows, in the sheet's
+//! Rows 5 to 13 and 28 on what a writer is given: each record by its own rows, in the sheet's
 //! order, then the end.
 
-use crate::content::{Content, Factor, Head, Par, Point, Unit, Zone};
+use crate::content::{Circulation, Content, Factor, Head, Par, Path, Point, Unit, Zone};
 use crate::due::Due;
 use crate::layout::{
-    FACTORS, LOADS, MOST_PARS, MOST_POINTS, MOST_UNITS, MOST_ZONES, PAR_FLOWS, PRICES, SCHEDULES,
-    SECONDS,
+    LAKE_FLOWS, LOADS, MOST_CIRCULATIONS, MOST_PARS, MOST_PATHS, MOST_POINTS, MOST_UNITS,
+    MOST_ZONES, PAR_FLOWS, PRICES, SCHEDULES, SECONDS,
 };
 use crate::names::NamesSeen;
 use crate::refusal::Refusal;
-use crate::rows::{class, name, new_name, room, rto, within, zone_number};
+use crate::rows::{self, class, name, new_name, room, rto, whole_lake, within, zone_number};
 use crate::sheet::Place;
 
 type Verdict = Result<(), Refusal>;
@@ -24,13 +24,15 @@ pub fn check(content: &Content) -> Verdict {
     pars(&content.pars)?;
     let mut due = Due::by(content.counts());
     factors(&content.factors, &mut due)?;
+    paths(&content.paths)?;
+    circulations(&content.circulations)?;
     if content.zones.is_empty() || content.units.is_empty() {
         return Err(Refusal::NothingToSettle);
     }
-    match due.next() {
-        Some(_) => Err(Refusal::FactorsStillDue),
-        None => Ok(()),
+    if due.next().is_some() {
+        return Err(Refusal::FactorsStillDue);
     }
+    whole_lake(content.paths.len(), content.circulations.len())
 }
 
 fn head(head: &Head) -> Verdict {
@@ -100,9 +102,26 @@ fn factors(factors: &[Factor], due: &mut Due) -> Verdict {
         if due.next() != Some([factor.target, factor.subject, high, low]) {
             return Err(Refusal::FactorNotDue);
         }
-        if !FACTORS.contains(&factor.value.into()) {
-            return Err(Refusal::FactorOutOfRange);
-        }
+        rows::factor(factor.value.into())?;
+    }
+    Ok(())
+}
+
+fn paths(paths: &[Path]) -> Verdict {
+    let mut names = NamesSeen::expecting(MOST_PATHS);
+    for (before, path) in paths.iter().enumerate() {
+        room(before, MOST_PATHS)?;
+        new_name(&mut names, path.name)?;
+        within(LAKE_FLOWS, path.flow.into())?;
+        rows::factor(path.factor.into())?;
+    }
+    Ok(())
+}
+
+fn circulations(circulations: &[Circulation]) -> Verdict {
+    for (before, circulation) in circulations.iter().enumerate() {
+        room(before, MOST_CIRCULATIONS)?;
+        within(LAKE_FLOWS, circulation.flow.into())?;
     }
     Ok(())
 }

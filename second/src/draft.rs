@@ -66,6 +66,15 @@ pub fn factor(target: u8, subject: u8, index: u16, factor: i16) -> Vec<u8> {
     record(Kind::Factor as u8, &[&[target, subject], &index, &factor])
 }
 
+pub fn path(name: NameField, flow: i32, factor: i16) -> Vec<u8> {
+    let (flow, factor) = (flow.to_be_bytes(), factor.to_be_bytes());
+    record(Kind::Path as u8, &[&name, &flow, &factor])
+}
+
+pub fn circulation(flow: i32) -> Vec<u8> {
+    record(Kind::Circulation as u8, &[&flow.to_be_bytes()])
+}
+
 pub fn entitlement(name: NameField, value: i32) -> Vec<u8> {
     record(ENTITLEMENT, &[&name, &value.to_be_bytes()])
 }
@@ -100,6 +109,19 @@ pub fn sheet_s_with_wheels() -> Vec<Vec<u8>> {
     let mut records = sheet_s();
     records[5] = point(name(b"P1"), 2, 2, [500, 0, 70, 30]);
     records[6] = point(name(b"P2"), 1, 0, [300, 200, 20, 50]);
+    records
+}
+
+/// Sheet S with paths L1 to L4 and a circulation of 201. Beyond its quarters the paths
+/// carry 199, -601, 599 and -101 quarters of a tenth: the impact is -12,011,970 / 4 W.
+pub fn sheet_s_with_paths() -> Vec<Vec<u8>> {
+    let mut records = sheet_s();
+    let flows = [100, -100, 200, 25];
+    let factors = [-3000, 1000, -5, 2];
+    for ((k, flow), factor) in (1..).zip(flows).zip(factors) {
+        records.push(path(name(&[b'L', b'0' + k]), flow, factor));
+    }
+    records.push(circulation(201));
     records
 }
 

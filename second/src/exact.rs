@@ -1,5 +1,7 @@
-//! The exact flow and amount: document 01's steps with no rounding anywhere, from
+//! The exact flow and amount: the papers' steps with no rounding anywhere, from
 //! the sheet's content alone, and the accuracy that is demanded of rounded figures.
+
+use std::cmp::Ordering;
 
 use crate::fraction::Fraction;
 use crate::sheet::{Class, FLOWGATE, Place, Rto, Sheet, Subject, Target};
@@ -18,6 +20,7 @@ pub struct RoundedFlow {
 pub struct Rounded {
     pub targets: Vec<(Target, RoundedFlow)>,
     pub market: Watts,
+    pub settled: Watts,
     pub amount: Amount,
 }
 
@@ -124,7 +127,33 @@ pub fn market_flow(sheet: &Sheet) -> Fraction {
     }
 }
 
-/// The exact amount in thousandths of a cent for the exact flow, by the price of its
+/// The exact impact in watts; 0 where the sheet has no paths.
+pub fn impact(sheet: &Sheet) -> Fraction {
+    let mut impact = Fraction::whole(0);
+    if let Some(lake) = &sheet.lake {
+        let share = Fraction::of(lake.circulation.0, 4);
+        for path in &lake.paths {
+            let beyond = &Fraction::whole(path.flow.0) - &share;
+            impact = &impact + &(&beyond * &Fraction::whole(path.factor.0 * 10));
+        }
+    }
+    impact
+}
+
+/// The exact settlement flow, by the formulas of source document 002. Without paths the
+/// adjusted flow is the market flow.
+pub fn settlement_flow(sheet: &Sheet, entitlement: Power) -> Fraction {
+    let entitlement = Fraction::whole(entitlement.0 * 100_000);
+    let unadjusted = market_flow(sheet);
+    let adjusted = &unadjusted + &impact(sheet);
+    match adjusted.cmp(&unadjusted) {
+        Ordering::Equal => unadjusted,
+        Ordering::Greater => adjusted.min(unadjusted.max(entitlement)),
+        Ordering::Less => adjusted.max(unadjusted.min(entitlement)),
+    }
+}
+
+/// The exact amount in thousandths of a cent for the exact flow that is paid on, by the price of its
 /// own side of the entitlement.
 pub fn amount(sheet: &Sheet, flow: &Fraction, entitlement: Power) -> Fraction {
     let difference = flow - &Fraction::whole(entitlement.0 * 100_000);
@@ -141,11 +170,16 @@ pub fn flow_bound(sheet: &Sheet) -> i64 {
     sheet.pars.len() as i64 + 2
 }
 
-/// How far the amount may be off: the flow's bound at the dearer price, and a half.
+/// How many watts the settlement flow may be off: p + 2, and one more with paths.
+pub fn settled_bound(sheet: &Sheet) -> i64 {
+    flow_bound(sheet) + i64::from(sheet.lake.is_some())
+}
+
+/// How far the amount may be off: the settlement flow's bound at the dearer price, and a half.
 pub fn amount_bound(sheet: &Sheet) -> Fraction {
     let head = &sheet.head;
     let dearer = head.monitoring_price.max(head.non_monitoring_price);
-    let worth = flow_bound(sheet) * dearer.0 * head.seconds.0;
+    let worth = settled_bound(sheet) * dearer.0 * head.seconds.0;
     &Fraction::of(worth, AMOUNT_DIVISOR) + &Fraction::of(1, 2)
 }
 
@@ -158,7 +192,10 @@ pub fn judge(sheet: &Sheet, entitlement: Power, rounded: &Rounded) -> Result<(),
     let flow = market_flow(sheet);
     let bound = Fraction::whole(flow_bound(sheet));
     within("market flow", rounded.market.0, &flow, &bound)?;
-    let amount = amount(sheet, &flow, entitlement);
+    let settled = settlement_flow(sheet, entitlement);
+    let bound = Fraction::whole(settled_bound(sheet));
+    within("settlement flow", rounded.settled.0, &settled, &bound)?;
+    let amount = amount(sheet, &settled, entitlement);
     within("amount", rounded.amount.0, &amount, &amount_bound(sheet))
 }
 
@@ -167,7 +204,8 @@ pub fn judge(sheet: &Sheet, entitlement: Power, rounded: &Rounded) -> Result<(),
 pub fn judge_hour(intervals: &[(Sheet, Power)], rounded: Amount) -> Result<(), String> {
     let (mut exact, mut bound) = (Fraction::whole(0), Fraction::whole(0));
     for (sheet, entitlement) in intervals {
-        exact = &exact + &amount(sheet, &market_flow(sheet), *entitlement);
+        let settled = settlement_flow(sheet, *entitlement);
+        exact = &exact + &amount(sheet, &settled, *entitlement);
         bound = &bound + &amount_bound(sheet);
     }
     within("amount of the hour", rounded.0, &exact, &bound)

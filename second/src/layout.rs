@@ -1,4 +1,4 @@
-//! The records of document 01: kinds, body lengths, counts and ranges.
+//! The records of documents 01 and 02: kinds, body lengths, counts and ranges.
 
 use std::ops::{Range, RangeInclusive};
 
@@ -12,6 +12,8 @@ pub enum Kind {
     Point = 4,
     Par = 5,
     Factor = 6,
+    Path = 7,
+    Circulation = 8,
 }
 
 impl Kind {
@@ -23,6 +25,8 @@ impl Kind {
             4 => Kind::Point,
             5 => Kind::Par,
             6 => Kind::Factor,
+            7 => Kind::Path,
+            8 => Kind::Circulation,
             _ => return None,
         })
     }
@@ -36,6 +40,8 @@ impl Kind {
             Kind::Point => 34,
             Kind::Par => 25,
             Kind::Factor => 6,
+            Kind::Path => 22,
+            Kind::Circulation => 4,
         }
     }
 }
@@ -47,8 +53,11 @@ pub const MOST_ZONES: usize = 32;
 pub const MOST_UNITS: usize = 256;
 pub const MOST_POINTS: usize = 32;
 pub const MOST_PARS: usize = 8;
+/// A sheet has all of them and a circulation, or neither.
+pub const MOST_PATHS: usize = 4;
+pub const MOST_CIRCULATIONS: usize = 1;
 /// How many bytes a sheet has that has all of them.
-pub const LONGEST_SHEET: usize = 28_004;
+pub const LONGEST_SHEET: usize = 28_101;
 
 pub const SECONDS: RangeInclusive<i64> = 1..=900;
 pub const PRICES: RangeInclusive<i64> = 0..=400_000;
@@ -58,6 +67,8 @@ pub const LOADS: RangeInclusive<i64> = 0..=2_000_000;
 pub const SCHEDULES: RangeInclusive<i64> = 0..=200_000;
 /// Flows over PARs, actual and target.
 pub const PAR_FLOWS: RangeInclusive<i64> = -200_000..=200_000;
+/// Flows on the paths between Michigan and Ontario, and around Lake Erie.
+pub const LAKE_FLOWS: RangeInclusive<i64> = -200_000..=200_000;
 pub const FACTORS: RangeInclusive<i64> = -10_000..=10_000;
 
 /// The kind byte of an entitlement list's record.

@@ -13,6 +13,7 @@ pub mod flow;
 pub mod fraction;
 pub mod generation_to_load;
 pub mod hour;
+pub mod lake;
 pub mod layout;
 pub mod listing;
 pub mod names;

@@ -7,10 +7,10 @@ use crate::refusal::Refusal;
 use crate::settle::{Statement, settle};
 
 /// No listing is longer.
-pub const LONGEST_LISTING: usize = 292;
+pub const LONGEST_LISTING: usize = 316;
 
 /// Settles one interval and prints its listing at the front of the buffer: rows 1
-/// to 23. The statement, and the listing's length. On a refusal the buffer stays as
+/// to 23 and 28. The statement, and the listing's length. On a refusal the buffer stays as
 /// before.
 pub fn report(sheet: &[u8], list: &[u8], out: &mut [u8]) -> Result<(Statement, usize), Refusal> {
     let statement = settle(sheet, list)?;
@@ -45,6 +45,8 @@ fn write_lines(statement: &Statement, out: &mut impl Write) -> io::Result<()> {
     let Statement {
         name,
         flow,
+        settled,
+        has_paths,
         entitlement,
         payment,
     } = statement;
@@ -60,12 +62,15 @@ fn write_lines(statement: &Statement, out: &mut impl Write) -> io::Result<()> {
     )?;
     write!(
         out,
-        "common {}\nnoncommon {}\nmarket {}\nentitlement {entitlement}\n",
+        "common {}\nnoncommon {}\nmarket {}\n",
         flow.common_redirect, flow.non_common_redirect, flow.market
     )?;
+    if *has_paths {
+        writeln!(out, "settled {settled}")?;
+    }
     write!(
         out,
-        "price {}\namount {}\nNYISO {}\nPJM {}\n",
+        "entitlement {entitlement}\nprice {}\namount {}\nNYISO {}\nPJM {}\n",
         payment.price, payment.amount, payment.nyiso, payment.pjm
     )
 }

@@ -1,21 +1,26 @@
-//! The reader of interval sheets: rows 1 to 13.
+//! The reader of interval sheets: rows 1 to 13 and 28.
 
 use crate::due::Due;
 use crate::layout::{
-    FACTORS, Fields, Kind, LOADS, MOST_PARS, MOST_POINTS, MOST_UNITS, MOST_ZONES, PAR_FLOWS,
-    PRICES, SCHEDULES, SECONDS,
+    Fields, Kind, LAKE_FLOWS, LOADS, MOST_CIRCULATIONS, MOST_PARS, MOST_PATHS, MOST_POINTS,
+    MOST_UNITS, MOST_ZONES, PAR_FLOWS, PRICES, SCHEDULES, SECONDS,
 };
 use crate::names::{Name, NameField, NamesSeen};
 use crate::refusal::Refusal;
-use crate::rows::{class, name, new_name, power, room, rto, within, zone_number};
-use crate::sheet::{FACTOR_RECORD, Head, Par, Place, Point, Sheet, Unit, Zone, ZoneNumber};
-use crate::units::{Price, Seconds};
+use crate::rows::{
+    class, factor, name, new_name, power, room, rto, whole_lake, within, zone_number,
+};
+use crate::sheet::{
+    FACTOR_RECORD, Head, Lake, Par, Path, Place, Point, Sheet, Unit, Zone, ZoneNumber,
+};
+use crate::units::{Power, Price, Seconds};
 
 /// A refused sheet.
 #[derive(Clone, Copy, Debug, PartialEq, Eq)]
 pub struct Refused {
     pub refusal: Refusal,
-    /// Where the offending record begins: the sheet's length for rows 12 and 13.
+    /// Where the offending record begins: the sheet's length for rows 12, 13
+    /// and 28.
     pub place: usize,
 }
 
@@ -43,6 +48,8 @@ struct Reader<'a> {
     kind: Kind,
     names: NamesSeen,
     due: Option<Due>,
+    paths: Vec<Path>,
+    circulation: Option<Power>,
     sheet: Sheet<'a>,
 }
 
@@ -59,6 +66,8 @@ impl<'a> Reader<'a> {
             kind: Kind::Head,
             names: NamesSeen::expecting(MOST_UNITS),
             due: None,
+            paths: Vec::new(),
+            circulation: None,
             sheet: Sheet {
                 head: head(Fields::of(body))?,
                 zones: Vec::new(),
@@ -66,6 +75,7 @@ impl<'a> Reader<'a> {
                 points: Vec::new(),
                 pars: Vec::new(),
                 factor_records: &[],
+                lake: None,
             },
         })
     }
@@ -88,6 +98,8 @@ impl<'a> Reader<'a> {
             Kind::Unit => self.unit(fields)?,
             Kind::Point => self.point(fields)?,
             Kind::Par => self.par(fields)?,
+            Kind::Path => self.path(fields)?,
+            Kind::Circulation => self.circulation(fields)?,
             _ => self.factor(fields)?,
         }
         self.place += 1 + body.len();
@@ -156,13 +168,26 @@ impl<'a> Reader<'a> {
         if due.next().is_none_or(|due| due != fields.bytes()) {
             return Err(Refusal::FactorNotDue);
         }
-        if !FACTORS.contains(&fields.signed_2()) {
-            return Err(Refusal::FactorOutOfRange);
-        }
-        // Factors end the sheet, so their records lie side by side.
+        factor(fields.signed_2())?;
+        // Kinds never fall, so the records of factors lie side by side.
         let first = self.place - self.sheet.factor_records.len() * FACTOR_RECORD;
         let records = &self.bytes[first..self.place + FACTOR_RECORD];
         self.sheet.factor_records = records.as_chunks().0;
+        Ok(())
+    }
+
+    fn path(&mut self, mut fields: Fields) -> Result<(), Refusal> {
+        room(self.paths.len(), MOST_PATHS)?;
+        let name = self.new_name(fields.bytes())?;
+        let flow = power(fields.signed_4(), LAKE_FLOWS)?;
+        let factor = factor(fields.signed_2())?;
+        self.paths.push(Path { name, flow, factor });
+        Ok(())
+    }
+
+    fn circulation(&mut self, mut fields: Fields) -> Result<(), Refusal> {
+        room(self.circulation.iter().count(), MOST_CIRCULATIONS)?;
+        self.circulation = Some(power(fields.signed_4(), LAKE_FLOWS)?);
         Ok(())
     }
 
@@ -175,16 +200,21 @@ impl<'a> Reader<'a> {
         zone_number(number, self.sheet.zones.len())
     }
 
-    /// Rows 12 and 13.
-    fn end(self) -> Result<Sheet<'a>, Refusal> {
+    /// Rows 12, 13 and 28.
+    fn end(mut self) -> Result<Sheet<'a>, Refusal> {
         if self.sheet.zones.is_empty() || self.sheet.units.is_empty() {
             return Err(Refusal::NothingToSettle);
         }
         let mut due = self.due.unwrap_or_else(|| Due::by(self.sheet.counts()));
-        match due.next() {
-            Some(_) => Err(Refusal::FactorsStillDue),
-            None => Ok(self.sheet),
+        if due.next().is_some() {
+            return Err(Refusal::FactorsStillDue);
         }
+        whole_lake(self.paths.len(), self.circulation.iter().count())?;
+        let paths = self.paths;
+        self.sheet.lake = self
+            .circulation
+            .map(|circulation| Lake { paths, circulation });
+        Ok(self.sheet)
     }
 }
 

@@ -12,7 +12,7 @@ pub enum Refusal {
     CutShort = 3,
     /// A kind below the one before, or a second head.
     OutOfOrder = 4,
-    /// One more of kinds 2 to 5 than allowed.
+    /// One more of kinds 2 to 5, 7 or 8 than allowed.
     Surplus = 5,
     IllFormedName = 6,
     RepeatedName = 7,
@@ -42,11 +42,16 @@ pub enum Refusal {
     OtherFlowgate = 26,
     /// The buffer is shorter than the sheet to be written.
     NoRoomForSheet = 27,
+    /// Paths or a circulation, but fewer than four paths or no circulation.
+    LakeIncomplete = 28,
 }
 
 impl Refusal {
-    /// The last that an interval's statement can meet.
-    pub const LAST_OF_STATEMENT: Refusal = Refusal::BufferTooShort;
+    /// Those that an interval's statement can meet, in the order of their numbers.
+    pub fn of_statement() -> impl Iterator<Item = u8> {
+        let last = Refusal::BufferTooShort.number();
+        (1..=last).chain([Refusal::LakeIncomplete.number()])
+    }
 
     pub const fn number(self) -> u8 {
         self as u8

@@ -1,11 +1,13 @@
-//! What rows 5 to 9 ask of a count, a name, a code or a number.
+//! What rows 5 to 9 and 11 ask of a count, a name, a code or a number, and row 28 of
+//! counts.
 
 use std::ops::RangeInclusive;
 
+use crate::layout::{FACTORS, MOST_CIRCULATIONS, MOST_PATHS};
 use crate::names::{Name, NameField, NamesSeen};
 use crate::refusal::Refusal;
 use crate::sheet::{Class, Rto, ZoneNumber};
-use crate::units::Power;
+use crate::units::{Factor, Power};
 
 pub fn room(count: usize, most: usize) -> Result<(), Refusal> {
     match count < most {
@@ -60,4 +62,21 @@ pub fn within(range: RangeInclusive<i64>, value: i64) -> Result<i64, Refusal> {
 
 pub fn power(value: i64, range: RangeInclusive<i64>) -> Result<Power, Refusal> {
     within(range, value).map(Power)
+}
+
+/// Row 11.
+pub fn factor(value: i64) -> Result<Factor, Refusal> {
+    match FACTORS.contains(&value) {
+        true => Ok(Factor(value)),
+        false => Err(Refusal::FactorOutOfRange),
+    }
+}
+
+/// Row 28: all paths and the circulation, or neither.
+pub fn whole_lake(paths: usize, circulations: usize) -> Result<(), Refusal> {
+    let (none, whole) = ((0, 0), (MOST_PATHS, MOST_CIRCULATIONS));
+    match [none, whole].contains(&(paths, circulations)) {
+        true => Ok(()),
+        false => Err(Refusal::LakeIncomplete),
+    }
 }

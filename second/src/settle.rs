@@ -1,8 +1,9 @@
-//! One interval's statement: rows 1 to 22.
+//! One interval's statement: rows 1 to 22 and 28.
 
 use crate::entitlement::entitlement;
 use crate::flow::{Flow, market_flow};
 use crate::generation_to_load::Balance;
+use crate::lake::settlement_flow;
 use crate::names::Name;
 use crate::payment::{Payment, payment};
 use crate::reader::read;
@@ -14,6 +15,10 @@ use crate::units::Watts;
 pub struct Statement {
     pub name: Name,
     pub flow: Flow,
+    /// What is paid on.
+    pub settled: Watts,
+    /// Whether the sheet has paths and a circulation.
+    pub has_paths: bool,
     pub entitlement: Watts,
     pub payment: Payment,
 }
@@ -36,11 +41,14 @@ pub fn interval(sheet: &[u8], list: &[u8]) -> Result<Interval, Refusal> {
     let balance = Balance::of(&sheet);
     balance.rows()?;
     let flow = market_flow(&sheet, &balance);
+    let settled = settlement_flow(sheet.lake.as_ref(), flow.market, entitlement);
     let statement = Statement {
         name: sheet.head.name,
         flow,
+        settled,
+        has_paths: sheet.lake.is_some(),
         entitlement,
-        payment: payment(&sheet.head, flow.market, entitlement)?,
+        payment: payment(&sheet.head, settled, entitlement)?,
     };
     Ok(Interval {
         head: sheet.head,

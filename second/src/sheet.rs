@@ -1,4 +1,4 @@
-//! The content of an interval sheet that passes rows 1 to 13.
+//! The content of an interval sheet that passes rows 1 to 13 and 28.
 
 use crate::layout::{Fields, Kind};
 use crate::names::Name;
@@ -83,6 +83,22 @@ pub struct Par {
     pub target: Power,
 }
 
+/// A path between Michigan and Ontario, its market flow, and the PARs' factor on the
+/// flowgate.
+#[derive(Clone, Copy, Debug)]
+pub struct Path {
+    pub name: Name,
+    pub flow: Power,
+    pub factor: Factor,
+}
+
+/// The four paths, and the circulation around Lake Erie.
+#[derive(Clone, Debug)]
+pub struct Lake {
+    pub paths: Vec<Path>,
+    pub circulation: Power,
+}
+
 /// What a factor multiplies.
 #[derive(Clone, Copy, Debug, PartialEq, Eq)]
 #[repr(u8)]
@@ -109,6 +125,7 @@ pub struct Sheet<'a> {
     pub pars: Vec<Par>,
     /// As they are due.
     pub factor_records: &'a [[u8; FACTOR_RECORD]],
+    pub lake: Option<Lake>,
 }
 
 impl<'a> Sheet<'a> {

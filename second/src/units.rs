@@ -90,6 +90,14 @@ quantity!(
     FineWatts
 );
 quantity!(
+    /// Quarters of a tenth of a MW.
+    QuarterPower
+);
+quantity!(
+    /// Flows in quarters of a watt.
+    QuarterWatts
+);
+quantity!(
     /// What a rounded share leaves: watts × tenths of a MW.
     Remainder
 );
@@ -107,6 +115,8 @@ quantity!(
 const WATTS_PER_POWER: i64 = 100_000;
 /// Ten-thousandths in one.
 pub const WHOLE_FACTOR: i64 = 10_000;
+/// Quarters in one.
+pub const QUARTERS: i64 = 4;
 /// Watts × cents per MWh × seconds in a thousandth of a cent.
 pub const AMOUNT_DIVISOR: i64 = 3_600_000;
 
@@ -131,6 +141,15 @@ impl Power {
     pub fn watts(self) -> Watts {
         Watts(self.0 * WATTS_PER_POWER)
     }
+
+    pub fn in_quarters(self) -> QuarterPower {
+        QuarterPower(self.0 * QUARTERS)
+    }
+
+    /// One of four equal shares.
+    pub fn quarter(self) -> QuarterPower {
+        QuarterPower(self.0)
+    }
 }
 
 impl Mul<Factor> for Power {
@@ -144,6 +163,20 @@ impl Mul<Factor> for Power {
 impl TensOfWatts {
     pub fn watts(self) -> Watts {
         Watts(self.0 * (WATTS_PER_POWER / WHOLE_FACTOR))
+    }
+}
+
+impl Mul<Factor> for QuarterPower {
+    type Output = QuarterWatts;
+
+    fn mul(self, factor: Factor) -> QuarterWatts {
+        QuarterWatts((Power(self.0) * factor).watts().0)
+    }
+}
+
+impl QuarterWatts {
+    pub fn rounded(self) -> Watts {
+        Watts(rounded_quotient(self.0, QUARTERS).0)
     }
 }
 

@@ -2,7 +2,7 @@
 
 use std::mem::take;
 
-use crate::content::{Content, Factor, Head, Par, Point, Unit, Zone};
+use crate::content::{Circulation, Content, Factor, Head, Par, Path, Point, Unit, Zone};
 use crate::content_rows::check;
 use crate::layout::Kind;
 use crate::refusal::Refusal;
@@ -21,6 +21,9 @@ pub fn write(content: &Content, out: &mut [u8]) -> Result<usize, Refusal> {
     content.points.iter().for_each(|it| rest.point(it));
     content.pars.iter().for_each(|it| rest.par(it));
     content.factors.iter().for_each(|it| rest.factor(it));
+    content.paths.iter().for_each(|it| rest.path(it));
+    let circulations = content.circulations.iter();
+    circulations.for_each(|it| rest.circulation(it));
     Ok(length)
 }
 
@@ -89,5 +92,17 @@ impl Rest<'_> {
         self.field([factor.target, factor.subject]);
         self.field(factor.index.to_be_bytes());
         self.field(factor.value.to_be_bytes());
+    }
+
+    fn path(&mut self, path: &Path) {
+        self.kind(Kind::Path);
+        self.field(path.name);
+        self.field(path.flow.to_be_bytes());
+        self.field(path.factor.to_be_bytes());
+    }
+
+    fn circulation(&mut self, circulation: &Circulation) {
+        self.kind(Kind::Circulation);
+        self.field(circulation.flow.to_be_bytes());
     }
 }

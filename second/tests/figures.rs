@@ -237,6 +237,7 @@ fn accuracy_is_judged_by_exact_figures() {
     let sound = Rounded {
         targets: vec![(FLOWGATE, gtl(12_600_000, 0, 0))],
         market: Watts(13_187_500),
+        settled: Watts(13_187_500),
         amount: Amount(1_328_125),
     };
     let entitlement = Power(100);
@@ -248,6 +249,8 @@ fn accuracy_is_judged_by_exact_figures() {
     };
     assert!(verdict(&|r| r.market += Watts(3)).is_ok());
     assert!(verdict(&|r| r.market += Watts(4)).is_err());
+    assert!(verdict(&|r| r.settled += Watts(3)).is_ok());
+    assert!(verdict(&|r| r.settled += Watts(4)).is_err());
     // Three watts of bound at 5000 and 300 s are 1.25, and a half for the amount.
     assert!(verdict(&|r| r.amount += Amount(1)).is_ok());
     assert!(verdict(&|r| r.amount += Amount(2)).is_err());

@@ -161,7 +161,8 @@ fn the_amount_is_off_by_the_bounds_together_at_most() {
     // A flow of 7 W at 5000 for 300 s is 2.91, and exact is 20/3 W: 2.77.
     assert_eq!(amount, Amount(12 * 3));
     let sheet = read(&bytes).unwrap();
-    let exact = exact::amount(&sheet, &exact::market_flow(&sheet), Power(0));
+    let settled = exact::settlement_flow(&sheet, Power(0));
+    let exact = exact::amount(&sheet, &settled, Power(0));
     assert_eq!(exact, Fraction::of(25, 9));
     let intervals: Vec<_> = (0..12).map(|_| (sheet.clone(), Power(0))).collect();
     let verdict = |amount| judge_hour(&intervals, Amount(amount));

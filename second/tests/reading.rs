@@ -1,9 +1,13 @@
 //! Rows 1 to 15 on sheet S and its list, changed record by record.
 
+#[path = "common/rows.rs"]
+mod rows;
+
+use rows::{place_of, refusal};
 use second::draft::{self, factor, head, name, par, point, unit, zone};
 use second::entitlement::entitlement;
 use second::names::NameField;
-use second::reader::{Refused, read};
+use second::reader::read;
 use second::units::Power;
 use second::{Name, Refusal};
 
@@ -14,21 +18,9 @@ const S_POINT: usize = 5;
 const S_PAR: usize = 7;
 const S_FACTOR: usize = 8;
 
-fn refusal(records: &[Vec<u8>]) -> Option<(u8, usize)> {
-    let bytes = records.concat();
-    let refused = read(&bytes).err();
-    refused.map(|Refused { refusal, place }| (refusal.number(), place))
-}
-
-fn place_of(records: &[Vec<u8>], record: usize) -> usize {
-    records[..record].iter().map(Vec::len).sum()
-}
-
 /// Sheet S with one record replaced is refused by that record.
 fn assert_refused(number: u8, at: usize, record: Vec<u8>) {
-    let mut records = draft::sheet_s();
-    records[at] = record;
-    assert_eq!(refusal(&records), Some((number, place_of(&records, at))));
+    rows::assert_refused(draft::sheet_s(), number, at, record);
 }
 
 #[test]
@@ -70,8 +62,14 @@ fn kinds_are_checked() {
     let mut records = draft::sheet_s();
     records.push(vec![0]);
     assert_eq!(refusal(&records), Some((2, place_of(&records, 21))));
-    records[21] = vec![7];
-    assert_eq!(refusal(&records), Some((2, place_of(&records, 21))));
+    for unknown in [9, 16, 255] {
+        records[21] = vec![unknown];
+        assert_eq!(refusal(&records), Some((2, place_of(&records, 21))));
+    }
+    for cut in [7, 8] {
+        records[21] = vec![cut];
+        assert_eq!(refusal(&records), Some((3, place_of(&records, 21))));
+    }
     let second_head = draft::sheet_s().swap_remove(S_HEAD);
     records[21] = second_head.clone();
     assert_eq!(refusal(&records), Some((4, place_of(&records, 21))));

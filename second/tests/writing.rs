@@ -102,12 +102,15 @@ fn sheet_s_is_written_again() {
 
 #[test]
 fn the_longest_sheet_is_written_again() {
-    let longest = sized(32, 256, 32, 8);
+    let mut longest = sized(32, 256, 32, 8);
     assert_eq!((longest.factors.len(), longest.length()), (2888, 28_004));
-    let (answer, out) = written(&longest, 28_004);
-    assert_eq!(answer, Ok(28_004));
+    let with_paths = content(&draft::sheet_s_with_paths().concat()).unwrap();
+    longest.paths = with_paths.paths;
+    longest.circulations = with_paths.circulations;
+    let (answer, out) = written(&longest, 28_101);
+    assert_eq!(answer, Ok(28_101));
     assert_eq!(content(&out).unwrap(), longest);
-    assert_eq!(written(&longest, 28_003).0, Err(27));
+    assert_eq!(written(&longest, 28_100).0, Err(27));
 }
 
 #[test]

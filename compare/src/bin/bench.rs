@@ -7,7 +7,7 @@ use std::time::Instant;
 
 use compare::chance::Chance;
 use compare::crafted::one_bucket;
-use compare::interval::{Interval, Scale, Sizes, drawn};
+use compare::interval::{Interval, Scale, Sizes, add_lake, drawn};
 use compare::library::Library;
 use compare::sides::{Second, Side};
 use second::draft;
@@ -176,6 +176,19 @@ fn longest(chance: &mut Chance, order: &str, rising: bool) {
     settle_row(&what("refused at its last record"), &sheet, &list);
 }
 
+/// The longest sheet there is, drawn apart from the others.
+fn with_paths(chance: &mut Chance) {
+    let mut longest = interval(chance, Sizes::LONGEST, false);
+    let scale = Scale {
+        power: 2_000,
+        factor: 100,
+    };
+    add_lake(chance, &mut longest, scale);
+    let one = draft::entitlement(longest.head.name, 5);
+    let sheet = longest.records().concat();
+    settle_row("longest sheet with paths, one entry", &sheet, &one);
+}
+
 /// From small sheets to the longest.
 fn growth(chance: &mut Chance) {
     for (zones, units, points, pars) in [
@@ -290,6 +303,7 @@ fn main() {
     settle_row("sheet S", &draft::sheet_s().concat(), &draft::list_s());
     longest(chance, "random", false);
     longest(chance, "rising", true);
+    with_paths(&mut Chance::of(2024, 2));
     println!("From small sheets to the longest, one entry, random names:");
     growth(chance);
     println!("Different sheets, one entry each, random names:");

@@ -85,8 +85,11 @@ impl Shown for Place {
     }
 }
 
-/// The last refusal that an interval has of its own, since adding prints nothing.
-const LAST_OWN: u8 = Refusal::LAST_OF_STATEMENT.number() - 1;
+/// The refusals that an interval has of its own; adding prints nothing.
+fn own_rows() -> impl Iterator<Item = u8> {
+    let printing = Refusal::BufferTooShort.number();
+    Refusal::of_statement().filter(move |row| *row != printing)
+}
 
 /// How many of the settlement's seeded inputs stand for one hour here.
 const INPUTS_PER_HOUR: u64 = 20;

@@ -1,8 +1,9 @@
 //! The settlement of one interval, with its listing, its reading and its look-up.
 
+mod bounds;
 mod cases;
 mod check;
-mod directed;
+pub(super) mod directed;
 pub(super) mod earlier;
 mod expected;
 pub(super) mod faults;
@@ -99,10 +100,8 @@ pub struct Settle {
 impl Settle {
     /// With the case files below a folder.
     pub fn with_cases(folder: &Path) -> Result<Self, String> {
-        let refusals = 1..=Refusal::LAST_OF_STATEMENT.number();
-        let answers = [String::from("accepted")]
-            .into_iter()
-            .chain(refusals.map(|number| format!("refused {number}")));
+        let refusals = Refusal::of_statement().map(|number| format!("refused {number}"));
+        let answers = [String::from("accepted")].into_iter().chain(refusals);
         let pairs = one_record::pairs();
         let pairs = pairs.iter().map(one_record::Pair::to_string);
         Ok(Settle {
@@ -128,7 +127,8 @@ impl Settle {
         let outcome = check::check(sides, input, &answer);
         let refusal = outcome.map_err(|it| input.trouble(it))?;
         self.tally.count();
-        self.tally.mark(ANSWERS, usize::from(refusal));
+        let place = Refusal::of_statement().position(|number| number == refusal);
+        self.tally.mark(ANSWERS, place.map_or(0, |it| it + 1));
         for landmark in landmarks::shown(input, &answer) {
             self.tally.mark(LANDMARKS, landmark);
         }
@@ -177,6 +177,15 @@ impl Settle {
         Ok(())
     }
 
+    /// Figures on the bounds, and a step past them.
+    fn bounds(&mut self, sides: &Sides) -> Outcome {
+        for input in [directed::sheet_s(), directed::sheet_s_with_paths()] {
+            let held = bounds::check(sides, &input);
+            held.map_err(|it| input.trouble(it))?;
+        }
+        Ok(())
+    }
+
     /// Every kind of record with every set of rows that it can meet.
     fn rows_on_one_record(&mut self, sides: &Sides, seed: u64) -> Outcome {
         for (k, faulty) in (0..).zip(one_record::all()) {
@@ -192,9 +201,8 @@ impl Settle {
 
     /// Every refusal by itself and with every other one, anywhere on the input.
     fn rows_anywhere(&mut self, sides: &Sides, seed: u64) -> Outcome {
-        let last = Refusal::LAST_OF_STATEMENT.number();
-        for row in 1..=last {
-            for other in row..=last {
+        for row in Refusal::of_statement() {
+            for other in Refusal::of_statement().filter(|other| *other >= row) {
                 let chance = &mut Chance::of(seed, u64::MAX - 1);
                 self.ask(sides, &faults::planted(chance, &[row, other]))?;
             }
@@ -215,7 +223,7 @@ impl Question for Settle {
         for (input, expected) in self.directed_inputs(seed).iter() {
             self.expect(sides, input, expected)?;
         }
-        Ok(())
+        self.bounds(sides)
     }
 
     fn seeded(&mut self, sides: &Sides, seed: u64, k: u64) -> Outcome {
@@ -225,8 +233,9 @@ impl Question for Settle {
     }
 
     fn sweeps(&mut self, sides: &Sides, seed: u64) -> Outcome {
-        let longest = inputs::longest(&mut Chance::of(seed, u64::MAX));
-        for input in [&directed::sheet_s(), &longest] {
+        let longest = inputs::longest_with_paths(&mut Chance::of(seed, u64::MAX));
+        let (sheet_s, with_paths) = (directed::sheet_s(), directed::sheet_s_with_paths());
+        for input in [&sheet_s, &with_paths, &longest] {
             self.every_truncation(sides, input)?;
             self.every_buffer(sides, input)?;
         }

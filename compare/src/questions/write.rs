@@ -12,7 +12,7 @@ use std::fmt;
 
 use second::draft;
 
-use crate::interval::{Scale, Sizes, drawn};
+use crate::interval::{Scale, Sizes, add_lake, drawn};
 use crate::mismatch::{Mismatch, Shown, Trouble};
 use crate::questions::settle::earlier;
 use crate::questions::{Outcome, Question};
@@ -161,8 +161,8 @@ impl Write {
     }
 }
 
-/// Sheet S, the same with wheels, the smallest sheet, and a longest one.
-fn bases(seed: u64) -> [Draft; 4] {
+/// Sheet S, the same with wheels and with paths, the smallest sheet, and a longest one.
+fn bases(seed: u64) -> [Draft; 5] {
     let chance = &mut inputs::chance(seed, u64::MAX);
     let smallest = Sizes {
         zones: 1,
@@ -170,14 +170,17 @@ fn bases(seed: u64) -> [Draft; 4] {
         points: 0,
         pars: 0,
     };
-    let mut of_size = |sizes| Draft::of(&drawn(chance, sizes, Scale::FULL));
-    let (smallest, longest) = (of_size(smallest), of_size(Sizes::LONGEST));
+    let smallest = drawn(chance, smallest, Scale::FULL);
+    let mut longest = drawn(chance, Sizes::LONGEST, Scale::FULL);
+    add_lake(chance, &mut longest, Scale::FULL);
+    (longest.paths[0].flow, longest.paths[0].factor) = (-200_000, -10_000);
     let read = |records: Vec<Vec<u8>>| Second.read_draft(&records.concat()).draft;
     [
         read(draft::sheet_s()),
         read(draft::sheet_s_with_wheels()),
-        smallest,
-        longest,
+        read(draft::sheet_s_with_paths()),
+        Draft::of(&smallest),
+        Draft::of(&longest),
     ]
 }
 
@@ -202,7 +205,8 @@ impl Question for Write {
                 self.expect_draft(sides, &what, &draft, row)?;
             }
         }
-        self.every_pair(sides, &bases[0])?;
+        let [_, _, with_paths, ..] = &bases;
+        self.every_pair(sides, with_paths)?;
         for (what, draft, row) in counts::surplus(&mut inputs::chance(seed, u64::MAX - 1)) {
             self.expect_draft(sides, &what, &draft, row)?;
         }
@@ -220,13 +224,15 @@ impl Question for Write {
     }
 
     fn sweeps(&mut self, sides: &Sides, seed: u64) -> Outcome {
-        let [sheet_s, with_wheels, smallest, longest] = &bases(seed);
-        for draft in [sheet_s, with_wheels, smallest] {
+        let [sheet_s, with_wheels, with_paths, smallest, longest] = &bases(seed);
+        for draft in [sheet_s, with_wheels, with_paths, smallest] {
             self.every_buffer(sides, draft, 1)?;
         }
         self.every_buffer(sides, longest, 499)?;
-        for sheet in damage::every_one(&draft::sheet_s().concat()) {
-            self.ask(sides, &Input::sheet("sheet S damaged", sheet))?;
+        for records in [draft::sheet_s(), draft::sheet_s_with_paths()] {
+            for sheet in damage::every_one(&records.concat()) {
+                self.ask(sides, &Input::sheet("sheet S damaged", sheet))?;
+            }
         }
         Ok(())
     }

@@ -5,7 +5,9 @@ mod empty;
 mod records;
 mod shown;
 
-use second::layout::{Kind, MOST_PARS, MOST_POINTS, MOST_UNITS, MOST_ZONES};
+use second::layout::{
+    Kind, MOST_CIRCULATIONS, MOST_PARS, MOST_PATHS, MOST_POINTS, MOST_UNITS, MOST_ZONES,
+};
 use second::names::NameField;
 
 use crate::sides::Printed;
@@ -72,6 +74,20 @@ pub struct Factor {
     pub factor: i16,
 }
 
+#[derive(Clone, Copy, Debug, PartialEq, Eq)]
+#[repr(C)]
+pub struct Path {
+    pub name: NameField,
+    pub flow: i32,
+    pub factor: i16,
+}
+
+#[derive(Clone, Copy, Debug, PartialEq, Eq)]
+#[repr(C)]
+pub struct Circulation {
+    pub flow: i32,
+}
+
 /// Records of each kind, one more than a sheet may have. It gives the first of them,
 /// as many as its count says, and all where the count is above.
 #[derive(Clone, Copy, PartialEq, Eq)]
@@ -88,6 +104,10 @@ pub struct Draft {
     pub pars: [Par; 9],
     pub factor_count: usize,
     pub factors: [Factor; 2889],
+    pub path_count: usize,
+    pub paths: [Path; 5],
+    pub circulation_count: usize,
+    pub circulations: [Circulation; 2],
 }
 
 const _: () = {
@@ -96,6 +116,8 @@ const _: () = {
     assert!(Draft::EMPTY.points.len() == MOST_POINTS + 1);
     assert!(Draft::EMPTY.pars.len() == MOST_PARS + 1);
     assert!(Draft::EMPTY.factors.len() == MOST_FACTORS + 1);
+    assert!(Draft::EMPTY.paths.len() == MOST_PATHS + 1);
+    assert!(Draft::EMPTY.circulations.len() == MOST_CIRCULATIONS + 1);
 };
 
 /// 0 and a sheet's records, or the refusal and a draft of zeros.
@@ -144,6 +166,14 @@ impl Draft {
         given(&self.factors, self.factor_count)
     }
 
+    pub fn paths(&self) -> &[Path] {
+        given(&self.paths, self.path_count)
+    }
+
+    pub fn circulations(&self) -> &[Circulation] {
+        given(&self.circulations, self.circulation_count)
+    }
+
     /// How many bytes its records have.
     pub fn length(&self) -> usize {
         let records = [
@@ -153,6 +183,8 @@ impl Draft {
             (Kind::Point, self.points().len()),
             (Kind::Par, self.pars().len()),
             (Kind::Factor, self.factors().len()),
+            (Kind::Path, self.paths().len()),
+            (Kind::Circulation, self.circulations().len()),
         ];
         let lengths = records.map(|(kind, count)| (1 + kind.body()) * count);
         lengths.into_iter().sum()

@@ -6,11 +6,12 @@ use second::layout::SECONDS;
 use second::names::NameField;
 
 use crate::chance::Chance;
-use crate::interval::{Interval, Scale, Sizes, drawn};
+use crate::interval::{Interval, Scale, Sizes, add_lake, drawn};
 use crate::questions::hour::inputs::{
-    chance, lasting, monitored_by, monitoring_of, of_other_flowgate, otherwise_monitored,
+    chance, lasting, monitored_by, monitoring_of, of_flowgate, of_other_flowgate,
+    otherwise_monitored,
 };
-use crate::questions::hour::{Input, LAST_OWN};
+use crate::questions::hour::{Input, own_rows};
 use crate::questions::settle;
 use crate::questions::settle::faults;
 use crate::sides::hours::Hour;
@@ -30,6 +31,7 @@ pub fn all(seed: u64) -> Vec<Directed> {
     all.extend(others(chance, model));
     all.push(own_refusals(chance, model));
     all.extend(amounts(chance));
+    all.extend(with_paths(chance, model));
     all.extend(any(model));
     all
 }
@@ -163,11 +165,8 @@ fn refused(chance: &mut Chance, row: u8) -> settle::Input {
 
 /// Every refusal of an interval's own in an hour of none, of some and of 60.
 fn own_refusals(chance: &mut Chance, model: &settle::Input) -> Directed {
-    let rows: Vec<u8> = (1..=LAST_OWN).collect();
-    let refused: Vec<(settle::Input, u8)> = rows
-        .into_iter()
-        .map(|row| (refused(chance, row), row))
-        .collect();
+    let refused: Vec<(settle::Input, u8)> =
+        own_rows().map(|row| (refused(chance, row), row)).collect();
     let mut script = Script::default();
     script.steps.extend_from_slice(&refused);
     script = script.taking(model, &[60; 12]);
@@ -198,6 +197,33 @@ fn amounts(chance: &mut Chance) -> Vec<Directed> {
     let model = listed(&with_flow(chance, 1, 1, 3000), 0);
     let hour = Script::default().taking(&model, &[60; MOST_INTERVALS]);
     all.push(hour.hour("60 ties"));
+    all
+}
+
+/// Intervals with paths: among others, 60 of them, and as far off the exact amount as p + 3
+/// allows and p + 2 does not.
+fn with_paths(chance: &mut Chance, model: &settle::Input) -> Vec<Directed> {
+    let mut interval = with_flow(chance, 100, 10_000, 5000);
+    add_lake(chance, &mut interval, Scale::TINY);
+    interval.head.monitoring = monitoring_of(model);
+    interval.paths[0].flow = 50;
+    interval.paths[0].factor = -10_000;
+    let settled = listed(&interval, 20);
+    let among = Script::default()
+        .taking(model, &[60; 3])
+        .taking(&settled, &[60; 3])
+        .taking(model, &[60; 3]);
+    let full = Script::default().taking(&settled, &[60; MOST_INTERVALS]);
+    let mut all = vec![
+        among.hour("intervals with and without paths"),
+        full.hour("60 intervals with paths"),
+    ];
+    for pars in [2, 8] {
+        let (far_off, _) = settle::directed::lake_accuracy::far_off(chance, pars);
+        let far_off = of_flowgate(&far_off, FLOWGATE);
+        let hour = Script::default().taking(&far_off, &[900; 4]);
+        all.push(hour.hour("more than p + 2 W off"));
+    }
     all
 }
 

@@ -9,20 +9,22 @@ use second::sheet::Rto;
 use second::units::Power;
 
 use crate::questions::hour::check::{Step, taken};
-use crate::questions::hour::{Input, LAST_OWN};
+use crate::questions::hour::{Input, own_rows};
 use crate::questions::settle;
 use crate::questions::settle::landmarks::wheels;
 use crate::sides::Second;
 use crate::sides::hours::{Hour, Hours};
 use crate::tally::Tally;
 
-const TAKEN: [&str; 6] = [
+const TAKEN: [&str; 8] = [
     "the 60th interval",
     "exactly 3600 s",
     "60 intervals of exactly 3600 s",
     "an interval over a cell that is not zero",
     "an interval in an hour of none that bears another name",
     "an interval whose market flow would be another without wheels",
+    "an interval with paths, its market flow is not settled",
+    "the 60th interval with paths",
 ];
 
 const REFUSED: [&str; 8] = [
@@ -51,7 +53,11 @@ const TOTALS: [&str; 12] = [
     "neither RTO monitors, an amount that is not zero",
 ];
 
-const GROWN: [&str; 1] = ["a full hour off by more than any of its intervals may be"];
+const GROWN: [&str; 3] = [
+    "a full hour off by more than any of its intervals may be",
+    "an hour off by more than p + 2 W of each interval allow",
+    "an hour of intervals with and without paths",
+];
 
 /// The tally's groups.
 const ANSWERS: usize = 0;
@@ -59,15 +65,14 @@ const LANDMARKS: usize = 1;
 const OWN: usize = 2;
 
 pub fn tally() -> Tally {
-    let rows = (1..=LAST_OWN).chain(24..=26);
-    let refused = rows.map(|row| format!("refused {row}"));
+    let refused = answers().map(|row| format!("refused {row}"));
     let answers = [String::from("accepted")].into_iter().chain(refused);
     let landmarks = TAKEN.iter().chain(&REFUSED).chain(&TOTALS);
     let landmarks = landmarks.chain(&GROWN).map(|name| name.to_string());
     let hours = ["an empty hour", "an hour of some", "a full hour"];
     let own = hours
         .iter()
-        .flat_map(|hour| (1..=LAST_OWN).map(move |row| format!("row {row} in {hour}")));
+        .flat_map(|hour| own_rows().map(move |row| format!("row {row} in {hour}")));
     Tally::default()
         .with("answers", answers.collect(), true)
         .with("landmarks", landmarks.collect(), true)
@@ -82,8 +87,8 @@ pub fn mark(tally: &mut Tally, input: &Input, steps: &[Step]) {
         tally.mark(ANSWERS, answer(refusal));
         match refusal {
             0 => shown(tally, 0, &accepted(step)),
-            1..=LAST_OWN => tally.mark(OWN, own(step)),
-            _ => shown(tally, TAKEN.len(), &refused(step)),
+            24..=26 => shown(tally, TAKEN.len(), &refused(step)),
+            _ => tally.mark(OWN, own(step)),
         }
     }
     let before = TAKEN.len() + REFUSED.len();
@@ -92,8 +97,9 @@ pub fn mark(tally: &mut Tally, input: &Input, steps: &[Step]) {
     for hour in [first, last] {
         shown(tally, before, &totals(&hour));
     }
-    let far_off = input.before.is_none() && far_off(&last, steps);
-    shown(tally, before + TOTALS.len(), &[far_off]);
+    if input.before.is_none() {
+        shown(tally, before + TOTALS.len(), &far_off(&last, steps));
+    }
 }
 
 fn shown(tally: &mut Tally, before: usize, shown: &[bool]) {
@@ -101,9 +107,17 @@ fn shown(tally: &mut Tally, before: usize, shown: &[bool]) {
     places.for_each(|(k, _)| tally.mark(LANDMARKS, before + k));
 }
 
-/// The place among the answers, where 23 is left out.
+/// Of intervals and of hours, in the order of their numbers.
+fn answers() -> impl Iterator<Item = u8> {
+    let mut rows: Vec<u8> = own_rows().chain(24..=26).collect();
+    rows.sort();
+    rows.into_iter()
+}
+
+/// The place among the answers, acceptance first.
 fn answer(refusal: u8) -> usize {
-    usize::from(refusal) - usize::from(refusal > LAST_OWN)
+    let place = answers().position(|row| row == refusal);
+    place.map_or(0, |it| it + 1)
 }
 
 fn own(step: &Step) -> usize {
@@ -112,7 +126,8 @@ fn own(step: &Step) -> usize {
         1..MOST_INTERVALS => 1,
         _ => 2,
     };
-    hour * usize::from(LAST_OWN) + usize::from(step.changed.refusal) - 1
+    let row = own_rows().position(|row| row == step.changed.refusal);
+    hour * own_rows().count() + row.unwrap_or(0)
 }
 
 fn accepted(step: &Step) -> [bool; TAKEN.len()] {
@@ -124,6 +139,8 @@ fn accepted(step: &Step) -> [bool; TAKEN.len()] {
     let whole = i64::from(Second.totals(&changed.hour).seconds) == MOST_SECONDS.0;
     let last = changed.hour.count == MOST_INTERVALS;
     let named = ![[0; 16], changed.hour.name].contains(&before.name);
+    let with_paths = sheet.lake.is_some();
+    let answer = step.interval.answer();
     [
         last,
         whole,
@@ -131,6 +148,8 @@ fn accepted(step: &Step) -> [bool; TAKEN.len()] {
         (before.amounts[at], before.seconds[at]) != (0, 0),
         at == 0 && named,
         wheels::show(&sheet, &Balance::of(&sheet)),
+        with_paths && answer.is_ok_and(|it| it.settled != it.flow.market),
+        last && with_paths,
     ]
 }
 
@@ -178,27 +197,39 @@ fn totals(hour: &Hour) -> [bool; TOTALS.len()] {
     ]
 }
 
-/// Whether the amount of a full hour lies further from the sum of the exact ones than
-/// the widest of the intervals' bounds.
-fn far_off(hour: &Hour, steps: &[Step]) -> bool {
-    if hour.count < MOST_INTERVALS {
-        return false;
+/// What an hour's intervals show together: a full hour's amount that lies further from the
+/// sum of the exact ones than the widest of their bounds, one that lies further than their
+/// bounds of p + 2 W, and both sorts of sheets.
+fn far_off(hour: &Hour, steps: &[Step]) -> [bool; GROWN.len()] {
+    let full = hour.count == MOST_INTERVALS;
+    let sheets = || taken(steps).map(|it| read(&it.sheet).expect("an accepted sheet is read"));
+    let with_paths = sheets().filter(|it| it.lake.is_some()).count();
+    if !full && with_paths == 0 {
+        return [false; GROWN.len()];
     }
-    let (mut exact, mut widest) = (Fraction::whole(0), Fraction::whole(0));
+    let [mut exact, mut widest, mut narrow] = [0; 3].map(Fraction::whole);
     for interval in taken(steps) {
-        let (amount, bound) = exact_amount(interval);
+        let (amount, bound, less) = exact_amount(interval);
         exact = &exact + &amount;
         widest = widest.max(bound);
+        narrow = &narrow + &less;
     }
-    (&Fraction::whole(Second.totals(hour).amount) - &exact).abs() > widest
+    let error = (&Fraction::whole(Second.totals(hour).amount) - &exact).abs();
+    [
+        full && error > widest,
+        error > narrow,
+        with_paths > 0 && with_paths < sheets().count(),
+    ]
 }
 
-/// An accepted interval's exact amount, and its bound.
-fn exact_amount(interval: &settle::Input) -> (Fraction, Fraction) {
-    let sheet = read(&interval.sheet).expect("an accepted sheet is read");
+/// An accepted interval's exact amount, its bound, and what p + 2 W alone would allow.
+fn exact_amount(interval: &settle::Input) -> (Fraction, Fraction, Fraction) {
+    let mut sheet = read(&interval.sheet).expect("an accepted sheet is read");
     let statement = interval.answer().expect("an accepted interval is settled");
     let entitlement = Power(statement.entitlement.0 / Power(1).watts().0);
-    let flow = exact::market_flow(&sheet);
+    let flow = exact::settlement_flow(&sheet, entitlement);
     let amount = exact::amount(&sheet, &flow, entitlement);
-    (amount, exact::amount_bound(&sheet))
+    let bound = exact::amount_bound(&sheet);
+    sheet.lake = None;
+    (amount, bound, exact::amount_bound(&sheet))
 }

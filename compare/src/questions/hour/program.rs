@@ -85,8 +85,8 @@ fn check_no_words(program: &Program) -> Result<(), Mismatch> {
 /// Hours with a file longer than any sheet or list.
 pub fn long_files() -> Vec<Input> {
     let mut hours = Vec::new();
-    for length in [28_004, 28_039, 65_536, 200_000] {
-        for filling in [0, 1, 6, 0x10] {
+    for length in [28_004, 28_101, 28_136, 65_536, 200_000] {
+        for filling in [0, 1, 6, 7, 8, 0x10] {
             let mut sheets = vec![sheet_s(); 3];
             sheets[1].sheet.resize(length, filling);
             hours.push(Input::grown("a long sheet file", sheets));

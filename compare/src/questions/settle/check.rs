@@ -99,6 +99,7 @@ fn accuracy(sides: &Sides, sheet: &[u8], list: &[u8]) -> Result<(), Mismatch> {
     let mut rounded = Rounded {
         targets: vec![(0, generation_to_load(&figures))],
         market: figures.market,
+        settled: figures.settled,
         amount: figures.amount,
         entitlement: figures.entitlement / Power(1).watts().0,
     };

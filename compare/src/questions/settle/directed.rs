@@ -1,6 +1,9 @@
 //! Inputs made for a landmark, with what document 01 says of them.
 
 mod greatest;
+mod lake;
+pub mod lake_accuracy;
+mod lake_rows;
 mod parts;
 mod rounding;
 mod wheels;
@@ -14,12 +17,17 @@ use crate::interval::{Interval, Scale, Sizes, drawn};
 use crate::questions::settle::check::records;
 use crate::questions::settle::{Expected, Input};
 
-pub use greatest::LONGEST_REACHED;
+pub use greatest::{LONGEST_REACHED, LONGEST_WITHOUT_PATHS};
 
 pub type Directed = (Input, Vec<Expected>);
 
 pub fn sheet_s() -> Input {
     Input::of("sheet S", draft::sheet_s().concat(), draft::list_s())
+}
+
+pub fn sheet_s_with_paths() -> Input {
+    let sheet = draft::sheet_s_with_paths().concat();
+    Input::of("sheet S with paths", sheet, draft::list_s())
 }
 
 /// All of them but the sweeps.
@@ -34,6 +42,9 @@ pub fn all(seed: u64) -> Vec<Directed> {
     all.extend(buckets(chance));
     all.extend(parts::all(chance));
     all.extend(wheels::all(chance));
+    all.extend(lake::all(chance));
+    all.extend(lake_accuracy::all(chance));
+    all.extend(lake_rows::all(chance));
     all
 }
 
@@ -49,7 +60,8 @@ fn expecting(origin: &str, interval: &Interval, refusal: u8) -> Directed {
 }
 
 /// Every beginning of an accepted sheet is refused: 1 where nothing is left, 3
-/// within a record, else 12 before the first unit and 13 behind it.
+/// within a record, else 12 before the first unit, 13 behind it and 28 behind the first
+/// path. Between factors and paths it is a sheet without paths.
 pub fn truncations(input: &Input) -> impl Iterator<Item = (Input, [Expected; 2])> + '_ {
     let mut begin = 0;
     let mut before = None;
@@ -57,6 +69,8 @@ pub fn truncations(input: &Input) -> impl Iterator<Item = (Input, [Expected; 2])
         let whole = match before.replace(record[0]) {
             None => 1,
             Some(kind) if kind < Kind::Unit as u8 => 12,
+            Some(kind) if kind > Kind::Factor as u8 => 28,
+            Some(_) if record[0] > Kind::Factor as u8 => 0,
             Some(_) => 13,
         };
         let place = begin;
@@ -67,7 +81,10 @@ pub fn truncations(input: &Input) -> impl Iterator<Item = (Input, [Expected; 2])
         let mut cut = input.clone();
         cut.sheet.truncate(length);
         cut.origin = format!("{}, the first {length} bytes", input.origin);
-        (cut, [Expected::Refusal(row), Expected::Place(place)])
+        match row {
+            0 => (cut, [Expected::Read, Expected::Place(0)]),
+            _ => (cut, [Expected::Refusal(row), Expected::Place(place)]),
+        }
     })
 }
 

@@ -1,4 +1,4 @@
-//! What document 01 says of an input.
+//! What the papers say of an input.
 
 use std::fmt;
 
@@ -10,6 +10,8 @@ use crate::sides::Side;
 pub enum Expected {
     /// 0 for an accepted input.
     Refusal(u8),
+    /// The sheet passes rows 1 to 13 and 28.
+    Read,
     /// Where the offending record begins.
     Place(usize),
     /// A line of the listing.
@@ -29,6 +31,10 @@ impl Expected {
                     Room::Listing(_) => side.settle(&input.sheet, &input.list),
                 };
                 (figures.refusal == *number, format!("{figures:?}"))
+            }
+            Expected::Read => {
+                let answer = side.read(&input.sheet);
+                (answer.refusal == 0, format!("{answer:?}"))
             }
             Expected::Place(wanted) => {
                 let place = side.read(&input.sheet).place;
@@ -53,6 +59,7 @@ impl fmt::Display for Expected {
         match self {
             Expected::Refusal(0) => write!(f, "accepted"),
             Expected::Refusal(number) => write!(f, "refused {number}"),
+            Expected::Read => write!(f, "a sheet that is read"),
             Expected::Place(place) => write!(f, "place {place}"),
             Expected::Line(line) => write!(f, "{line}"),
         }

@@ -1,20 +1,21 @@
 //! Inputs made to meet chosen rows anywhere: each refusal by itself, and in pairs.
 
-use std::ops::RangeInclusive;
+use std::ops::{Range, RangeInclusive};
 
 use second::layout::{
-    ENTITLEMENTS, Kind, LOADS, MOST_ENTITLEMENTS, NAME, PAR_FLOWS, PRICES, SCHEDULES,
+    ENTITLEMENTS, Kind, LOADS, MOST_ENTITLEMENTS, MOST_PATHS, NAME, PAR_FLOWS, PRICES, SCHEDULES,
 };
 use second::names::NameField;
 use second::{Refusal, draft};
 
 use crate::chance::Chance;
-use crate::interval::{Interval, names};
+use crate::interval::{Interval, Record, Scale, add_lake, names};
 use crate::questions::settle::inputs::{list_with, sound};
 use crate::questions::settle::{Input, Room};
 
 fn any_row(chance: &mut Chance) -> u8 {
-    1 + chance.below(usize::from(Refusal::LAST_OF_STATEMENT.number())) as u8
+    let rows: Vec<u8> = Refusal::of_statement().collect();
+    chance.pick(&rows)
 }
 
 /// An input that is made to meet one row.
@@ -32,6 +33,9 @@ pub fn pair(chance: &mut Chance) -> Input {
 /// Plants the faults from the fields outwards: fields, records, bytes.
 pub fn planted(chance: &mut Chance, rows: &[u8]) -> Input {
     let mut interval = sound(chance);
+    if rows.contains(&28) {
+        add_lake(chance, &mut interval, Scale::TINY);
+    }
     for row in rows {
         match row {
             6..=9 | 11 => in_field(chance, &mut interval, *row),
@@ -41,7 +45,7 @@ pub fn planted(chance: &mut Chance, rows: &[u8]) -> Input {
     }
     let mut records = interval.records();
     // Later rows first, since they cut away what the earlier ones damage.
-    for row in [13, 12, 10, 5, 4, 2] {
+    for row in [13, 12, 28, 10, 5, 4, 2] {
         if rows.contains(&row) {
             in_records(chance, &interval, &mut records, row);
         }
@@ -54,7 +58,7 @@ pub fn planted(chance: &mut Chance, rows: &[u8]) -> Input {
     if rows.contains(&1) {
         match chance.below(3) {
             0 => sheet.clear(),
-            _ => sheet[0] = chance.pick(&[0, 2, 3, 4, 5, 6, 7, 255]),
+            _ => sheet[0] = chance.pick(&[0, 2, 3, 4, 5, 6, 7, 8, 255]),
         }
     }
     let list = list(chance, interval.head.name, rows);
@@ -85,6 +89,10 @@ fn in_field(chance: &mut Chance, interval: &mut Interval, row: u8) {
         7 => doubled_name(chance, interval),
         8 => bad_code(chance, interval),
         9 => bad_number(chance, interval),
+        _ if !interval.paths.is_empty() && chance.one_in(3) => {
+            let at = chance.below(interval.paths.len());
+            interval.paths[at].factor = beyond_factors(chance);
+        }
         _ => {
             let targets = 1 + interval.on_pars.len();
             let target = match chance.below(targets) {
@@ -93,7 +101,7 @@ fn in_field(chance: &mut Chance, interval: &mut Interval, row: u8) {
             };
             let units = &mut target.units;
             let at = chance.below(units.len());
-            units[at] = chance.pick(&[10_001, -10_001, i16::MAX, i16::MIN]);
+            units[at] = beyond_factors(chance);
         }
     }
 }
@@ -104,12 +112,17 @@ fn any_name<'a>(chance: &mut Chance, interval: &'a mut Interval) -> &'a mut Name
     names.extend(interval.units.iter_mut().map(|unit| &mut unit.name));
     names.extend(interval.points.iter_mut().map(|point| &mut point.name));
     names.extend(interval.pars.iter_mut().map(|par| &mut par.name));
+    names.extend(interval.paths.iter_mut().map(|path| &mut path.name));
     let at = chance.below(names.len());
     names.swap_remove(at)
 }
 
 fn doubled_name(chance: &mut Chance, interval: &mut Interval) {
-    match chance.below(4) {
+    match chance.below(5) {
+        4 if !interval.paths.is_empty() => {
+            let at = chance.below(interval.paths.len() - 1);
+            interval.paths[at + 1].name = interval.paths[at].name;
+        }
         0 if interval.zones.len() > 1 => {
             interval.zones[0].name = interval.zones[interval.zones.len() - 1].name;
         }
@@ -149,7 +162,7 @@ fn bad_number(chance: &mut Chance, interval: &mut Interval) {
     let zone = chance.below(interval.zones.len());
     let unit = chance.below(interval.units.len());
     let points = interval.points.len();
-    match chance.below(12) {
+    match chance.below(14) {
         0 => interval.head.seconds = chance.pick(&[0, 901, u16::MAX]),
         1 => interval.head.prices[0] = above(chance, &PRICES),
         2 => interval.head.prices[1] = above(chance, &PRICES),
@@ -161,6 +174,10 @@ fn bad_number(chance: &mut Chance, interval: &mut Interval) {
         }
         9 if !interval.pars.is_empty() => interval.pars[0].actual = beyond,
         10 if !interval.pars.is_empty() => interval.pars[0].target = beyond,
+        12 if !interval.paths.is_empty() => {
+            interval.paths[chance.below(MOST_PATHS)].flow = beyond;
+        }
+        13 if !interval.circulations.is_empty() => interval.circulations[0].flow = beyond,
         _ => interval.units[unit].output = above(chance, &LOADS),
     }
 }
@@ -170,9 +187,14 @@ pub fn above(chance: &mut Chance, range: &RangeInclusive<i64>) -> u32 {
     chance.pick(&[*range.end() as u32 + 1, 0x8000_0000, u32::MAX])
 }
 
+/// Beyond a PAR's flows, and those of the lake, which have the same range.
 pub fn beyond_par_flows(chance: &mut Chance) -> i32 {
     let (least, most) = (*PAR_FLOWS.start() as i32, *PAR_FLOWS.end() as i32);
     chance.pick(&[most + 1, least - 1, i32::MIN, i32::MAX])
+}
+
+pub fn beyond_factors(chance: &mut Chance) -> i16 {
+    chance.pick(&[10_001, -10_001, i16::MAX, i16::MIN])
 }
 
 /// A point to be made faulty, a new one where there is none.
@@ -270,50 +292,81 @@ fn beyond_the_limit(chance: &mut Chance, interval: &mut Interval) {
     interval.flowgate.pars[par] = 10_000;
 }
 
-/// Rows 2, 4, 5, 10, 12 and 13: whole records.
+/// Rows 2, 4, 5, 10, 12, 13 and 28: whole records.
 fn in_records(chance: &mut Chance, interval: &Interval, records: &mut Vec<Vec<u8>>, row: u8) {
     let factors = records
         .iter()
         .position(|record| record[0] == Kind::Factor as u8);
     let factors = factors.unwrap_or(records.len());
+    let behind = records.iter().position(|it| it[0] > Kind::Factor as u8);
+    let behind = behind.unwrap_or(records.len());
     match row {
         2 => {
             let at = 1 + chance.below(records.len().max(2) - 1);
-            let kind = chance.pick(&[0, 7, 8, 16, 255]);
+            let kind = chance.pick(&[0, 9, 10, 16, 255]);
             match records.get_mut(at) {
                 Some(record) => record[0] = kind,
                 None => records.push(vec![kind]),
             }
         }
-        4 => {
-            let at = 1 + chance.below(records.len());
-            let record = if chance.one_in(2) || at < 3 {
-                records[0].clone()
-            } else {
-                records[1].clone()
-            };
-            let behind = records[at - 1][0];
-            let at = if behind > record[0] {
-                at
-            } else {
-                records.len()
-            };
-            records.insert(at, if at < 3 { records[0].clone() } else { record });
-        }
+        4 => out_of_order(chance, records),
         5 => surplus(chance, records),
-        10 if factors < records.len() => misplaced_factor(chance, records, factors),
+        10 if factors < behind => misplaced_factor(chance, records, factors..behind),
         12 => records.truncate(1 + chance.below(1 + interval.zones.len())),
-        13 if factors < records.len() => {
-            let left = factors + chance.below(records.len() - factors);
-            records.truncate(left);
+        13 if factors < behind => {
+            let left = factors + chance.below(behind - factors);
+            records.drain(left..behind);
+        }
+        28 => {
+            records.retain(|it| it[0] <= Kind::Factor as u8);
+            records.extend(part_of_the_lake(chance, interval));
         }
         _ => {}
     }
 }
 
+/// Row 4: the head or the record behind it once more, or the last two kinds exchanged.
+fn out_of_order(chance: &mut Chance, records: &mut Vec<Vec<u8>>) {
+    let last = records.len() - 1;
+    if records[last][0] == Kind::Circulation as u8 && chance.one_in(2) {
+        records.swap(last, last - 1 - chance.below(6));
+        return;
+    }
+    let at = 1 + chance.below(records.len());
+    let record = if chance.one_in(2) || at < 3 {
+        records[0].clone()
+    } else {
+        records[1].clone()
+    };
+    let behind = records[at - 1][0];
+    let at = if behind > record[0] {
+        at
+    } else {
+        records.len()
+    };
+    records.insert(at, if at < 3 { records[0].clone() } else { record });
+}
+
+/// Row 28: some of the paths and the circulation, neither none nor all of them.
+fn part_of_the_lake(chance: &mut Chance, interval: &Interval) -> Vec<Vec<u8>> {
+    let paths = interval.paths.iter().cloned().map(Record::Path);
+    let circulations = interval.circulations.iter().cloned();
+    let lake = paths.chain(circulations.map(Record::Circulation));
+    let mut lake: Vec<Vec<u8>> = lake.map(|it| it.bytes()).collect();
+    match chance.below(4) {
+        0 => lake.truncate(MOST_PATHS),
+        1 => lake = lake.split_off(MOST_PATHS),
+        2 => lake.truncate(1 + chance.below(MOST_PATHS - 1)),
+        _ => {
+            lake.drain(..1 + chance.below(MOST_PATHS - 1));
+        }
+    }
+    lake
+}
+
 /// Row 5: one more of a kind than allowed, behind the last of that kind.
 fn surplus(chance: &mut Chance, records: &mut Vec<Vec<u8>>) {
-    let (kind, most) = chance.pick(&[(2, 32), (3, 256), (4, 32), (5, 8)]);
+    let (kind, most) = chance.pick(&[(2, 32), (3, 256), (4, 32), (5, 8), (7, 4), (8, 1)]);
     let end = records.iter().position(|record| record[0] > kind);
     let end = end.unwrap_or(records.len());
     let there = records[..end].iter().filter(|record| record[0] == kind);
@@ -325,7 +378,9 @@ fn surplus(chance: &mut Chance, records: &mut Vec<Vec<u8>>) {
             2 => draft::zone(name, 0, 0),
             3 => draft::unit(name, 1, 0),
             4 => draft::point(name, 1, 0, [0; 4]),
-            _ => draft::par(name, 1, 0, 0),
+            5 => draft::par(name, 1, 0, 0),
+            7 => draft::path(name, 0, 0),
+            _ => draft::circulation(0),
         }
     });
     let more: Vec<Vec<u8>> = more.collect();
@@ -333,8 +388,8 @@ fn surplus(chance: &mut Chance, records: &mut Vec<Vec<u8>>) {
 }
 
 /// Row 10: a factor that is not the one due.
-fn misplaced_factor(chance: &mut Chance, records: &mut Vec<Vec<u8>>, factors: usize) {
-    let at = factors + chance.below(records.len() - factors);
+fn misplaced_factor(chance: &mut Chance, records: &mut Vec<Vec<u8>>, factors: Range<usize>) {
+    let at = factors.start + chance.below(factors.len());
     match chance.below(5) {
         0 => records[at][1] ^= chance.pick(&[1, 8, 128]),
         1 => records[at][2] ^= chance.pick(&[1, 7, 128]),
@@ -404,7 +459,7 @@ mod tests {
     /// A planted row is nearly always the one that is met.
     #[test]
     fn each_row_is_met_by_itself() {
-        for row in 1..=Refusal::LAST_OF_STATEMENT.number() {
+        for row in Refusal::of_statement() {
             let met = (0..60).filter(|k| {
                 let input = planted(&mut Chance::of(u64::from(row), *k), &[row]);
                 let mut out = vec![0; room(&input, &input.answer())];

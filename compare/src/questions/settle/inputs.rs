@@ -11,7 +11,9 @@ use second::units::Power;
 use second::{draft, reader};
 
 use crate::chance::Chance;
-use crate::interval::{Interval, Record, Scale, Sizes, drawn, names, signed_value};
+use crate::interval::{
+    Interval, Record, Scale, Sizes, add_lake, add_lake_to_one_in, drawn, names, signed_value,
+};
 use crate::questions::settle::{Input, Room, earlier, faults};
 
 /// The k-th input of a seed.
@@ -77,7 +79,9 @@ pub fn sound(chance: &mut Chance) -> Interval {
         factor: chance.pick(&[1, 3, 50]),
         ..Scale::drawn(chance)
     };
-    drawn(chance, sizes, scale)
+    let mut interval = drawn(chance, sizes, scale);
+    add_lake_to_one_in(4, chance, &mut interval, scale);
+    interval
 }
 
 fn with_list(chance: &mut Chance, origin: &str, interval: &Interval) -> Input {
@@ -87,7 +91,8 @@ fn with_list(chance: &mut Chance, origin: &str, interval: &Interval) -> Input {
 
 fn plain(chance: &mut Chance) -> Input {
     let (sizes, scale) = (Sizes::drawn(chance), Scale::drawn(chance));
-    let interval = drawn(chance, sizes, scale);
+    let mut interval = drawn(chance, sizes, scale);
+    add_lake_to_one_in(4, chance, &mut interval, scale);
     with_list(chance, "any sizes and values", &interval)
 }
 
@@ -95,6 +100,7 @@ fn plain(chance: &mut Chance) -> Input {
 fn tiny(chance: &mut Chance) -> Input {
     let sizes = Sizes::drawn(chance);
     let mut interval = drawn(chance, sizes, Scale::TINY);
+    add_lake_to_one_in(4, chance, &mut interval, Scale::TINY);
     if chance.one_in(2) {
         interval.head.seconds = 300;
         interval.head.prices = [6000, chance.pick(&[6000, 400_000, 1])];
@@ -116,7 +122,20 @@ fn extreme(chance: &mut Chance) -> Input {
         factors.zones.fill(factor);
         factors.points.fill(chance.pick(&[10_000, -10_000]));
     }
+    if chance.one_in(4) {
+        extreme_lake(chance, &mut interval);
+    }
     with_list(chance, "extreme values", &interval)
+}
+
+/// Every field at an end.
+fn extreme_lake(chance: &mut Chance, interval: &mut Interval) {
+    add_lake(chance, interval, Scale::FULL);
+    for path in &mut interval.paths {
+        path.flow = chance.pick(&[200_000, -200_000]);
+        path.factor = chance.pick(&[10_000, -10_000]);
+    }
+    interval.circulations[0].flow = chance.pick(&[200_000, -200_000]);
 }
 
 /// Adds a PAR whose control moves the market flow by tens of watts.
@@ -171,9 +190,32 @@ fn at_the_limit(chance: &mut Chance) -> Input {
     interval.points[point].class = chance.pick(&[1, 2]);
     interval.flowgate.points[point] = 10_000 * sign as i16;
     steer(chance, &mut interval, |_| sign * LARGEST_FLOW.0);
+    if chance.one_in(3) {
+        cross_the_limit(chance, &mut interval, point);
+    }
     let value = chance.pick(&[0, 100_000, -100_000, 99_999, -99_999]);
     let list = draft::entitlement(interval.head.name, value);
     Input::of("next to the limit", interval.records().concat(), list)
+}
+
+/// Adds paths that bring some tenths of a MW and some watts. Half of the time this point,
+/// which has a whole factor, takes the tenths away again, so that the adjusted flow is
+/// next to the limit and not the market flow.
+fn cross_the_limit(chance: &mut Chance, interval: &mut Interval, point: usize) {
+    add_lake(chance, interval, Scale::TINY);
+    let (far, near) = (signed_value(chance, 90_000), signed_value(chance, 9));
+    let tenths = chance.pick(&[far, near, 0, 0]) as i32;
+    (interval.paths[0].flow, interval.paths[0].factor) = (tenths, 10_000);
+    interval.circulations[0].flow = chance.pick(&[0, 0, 4, -8]);
+    if chance.one_in(2) {
+        return;
+    }
+    let along = tenths.signum() == i32::from(interval.flowgate.points[point].signum());
+    let point = &mut interval.points[point];
+    match along {
+        true => point.wheel_out += tenths.unsigned_abs(),
+        false => point.wheel_in += tenths.unsigned_abs(),
+    }
 }
 
 /// Market flows on and next to the entitlement.
@@ -185,6 +227,10 @@ fn at_the_entitlement(chance: &mut Chance) -> Input {
     let mut entitlement = 0;
     let watts = Power(1).watts().0;
     steer(chance, &mut interval, |market| market / watts * watts);
+    if chance.one_in(4) {
+        add_lake(chance, &mut interval, Scale::TINY);
+        small_impact(chance, &mut interval);
+    }
     let sheet = interval.records().concat();
     let market = market(&sheet);
     if market.abs() <= LARGEST_FLOW.0 {
@@ -192,6 +238,15 @@ fn at_the_entitlement(chance: &mut Chance) -> Input {
     }
     let list = list_with(chance, interval.head.name, entitlement, 3).concat();
     Input::of("next to the entitlement", sheet, list)
+}
+
+/// Some watts, so that the adjusted flow stays next to the entitlement too.
+pub fn small_impact(chance: &mut Chance, interval: &mut Interval) {
+    for path in &mut interval.paths {
+        path.flow = signed_value(chance, 3) as i32;
+        path.factor = signed_value(chance, 1) as i16;
+    }
+    interval.circulations[0].flow = signed_value(chance, 4) as i32;
 }
 
 /// A market flow of one watt against the entitlement of 0, with as much rounding as
@@ -229,6 +284,10 @@ fn much_rounded(chance: &mut Chance) -> Interval {
         *factor = chance.pick(&[9999, -9999, 10_000, -10_000]);
     }
     steer(chance, &mut interval, |_| 0);
+    if chance.one_in(4) {
+        add_lake(chance, &mut interval, Scale::TINY);
+        small_impact(chance, &mut interval);
+    }
     interval
 }
 
@@ -266,7 +325,8 @@ fn of_earlier_form(chance: &mut Chance) -> Input {
     input
 }
 
-/// Records swapped, doubled, dropped or moved.
+/// Records swapped, doubled, dropped or moved; half of the time among the last, where
+/// paths may stand.
 fn rearranged(chance: &mut Chance) -> Input {
     let interval = sound(chance);
     let mut sheet = interval.records();
@@ -276,7 +336,10 @@ fn rearranged(chance: &mut Chance) -> Input {
     } else {
         &mut sheet
     };
-    let (one, other) = (chance.below(records.len()), chance.below(records.len()));
+    let some = if chance.one_in(2) { 7 } else { usize::MAX };
+    let before = records.len().saturating_sub(some);
+    let mut any = || before + chance.below(records.len() - before);
+    let (one, other) = (any(), any());
     match chance.below(4) {
         0 => records.swap(one, other),
         1 => {
@@ -306,10 +369,10 @@ fn trailing(chance: &mut Chance) -> Input {
     let interval = sound(chance);
     let mut input = with_list(chance, "bytes behind the end", &interval);
     let bytes = list_or_sheet(chance, 3, &mut input);
-    let first = chance.pick(&[0, 1, 2, 5, 6, 7, 16, 255]);
+    let first = chance.pick(&[0, 1, 2, 5, 6, 7, 8, 9, 16, 255]);
     bytes.push(first);
     for _ in 0..chance.below(40) {
-        bytes.push(chance.pick(&[0, 1, 6, 16, 255]));
+        bytes.push(chance.pick(&[0, 1, 6, 7, 8, 16, 255]));
     }
     input
 }
@@ -317,7 +380,8 @@ fn trailing(chance: &mut Chance) -> Input {
 /// Files longer than any sheet or list.
 fn oversized(chance: &mut Chance) -> Input {
     let scale = Scale::drawn(chance);
-    let interval = drawn(chance, Sizes::LONGEST, scale);
+    let mut interval = drawn(chance, Sizes::LONGEST, scale);
+    add_lake_to_one_in(2, chance, &mut interval, scale);
     let count = chance.pick(&[1, MOST_ENTITLEMENTS]);
     let mut list = list_with(chance, interval.head.name, 0, count).concat();
     let mut sheet = interval.records().concat();
@@ -338,7 +402,8 @@ fn oversized(chance: &mut Chance) -> Input {
 /// The longest sheet, and so many bytes of a point behind it, the longest record that can
 /// stand there.
 pub fn point_behind_the_longest(chance: &mut Chance, length: usize) -> Input {
-    let longest = drawn(chance, Sizes::LONGEST, Scale::TINY);
+    let mut longest = drawn(chance, Sizes::LONGEST, Scale::TINY);
+    add_lake(chance, &mut longest, Scale::TINY);
     let mut sheet = longest.records().concat();
     let point = Record::Point(longest.points[0].clone()).bytes();
     sheet.extend_from_slice(&point[..length]);
@@ -350,7 +415,7 @@ fn noise(chance: &mut Chance) -> Input {
     let mut bytes = |first: u8| {
         let mut bytes = vec![first; chance.below(2)];
         for _ in 0..chance.pick(&[0, 0, 10, 100, 1000]) {
-            bytes.push(chance.pick(&[0, 1, 2, 3, 4, 5, 6, 16, 65, 255]));
+            bytes.push(chance.pick(&[0, 1, 2, 3, 4, 5, 6, 7, 8, 16, 65, 255]));
         }
         bytes
     };
@@ -387,12 +452,25 @@ fn listed(chance: &mut Chance) -> Input {
     Input::of("long lists", interval.records().concat(), list.concat())
 }
 
-/// The longest sheet.
+/// The longest sheet, half of the time without paths.
 pub fn longest(chance: &mut Chance) -> Input {
+    let paths = chance.one_in(2);
+    sheet_of_most(chance, paths)
+}
+
+pub fn longest_with_paths(chance: &mut Chance) -> Input {
+    sheet_of_most(chance, true)
+}
+
+/// With as many zones, units, points and PARs as there can be.
+fn sheet_of_most(chance: &mut Chance, paths: bool) -> Input {
     let scale = Scale {
         factor: chance.pick(&[10, 100, *FACTORS.end()]),
         power: chance.pick(&[100_000, *LOADS.end()]),
     };
-    let interval = drawn(chance, Sizes::LONGEST, scale);
+    let mut interval = drawn(chance, Sizes::LONGEST, scale);
+    if paths {
+        add_lake(chance, &mut interval, scale);
+    }
     with_list(chance, "the longest sheet", &interval)
 }

@@ -1,5 +1,6 @@
 //! Situations that a comparison must not miss.
 
+pub mod lake;
 mod parts;
 pub mod wheels;
 
@@ -7,6 +8,7 @@ use second::exact;
 use second::flow::{carried, market_flow};
 use second::fraction::Fraction;
 use second::generation_to_load::Balance;
+use second::lake::unrounded_impact;
 use second::layout::{
     Fields, Kind, LOADS, LONGEST_SHEET, MOST_ENTITLEMENTS, MOST_UNITS, MOST_ZONES, NAME,
 };
@@ -14,21 +16,22 @@ use second::names::NameField;
 use second::payment::LARGEST_FLOW;
 use second::reader::read;
 use second::sheet::{Class, FLOWGATE, Place, Rto, Sheet};
-use second::units::{AMOUNT_DIVISOR, Power, WHOLE_FACTOR};
+use second::units::{AMOUNT_DIVISOR, Power, QUARTERS, WHOLE_FACTOR};
 use second::{Refusal, Statement, draft, listing};
 
 use crate::crafted::share_a_bucket;
 use crate::questions::settle::Input;
 use crate::questions::settle::check::{Answer, entries, name_of, records};
-use crate::questions::settle::directed::LONGEST_REACHED;
+use crate::questions::settle::directed::{LONGEST_REACHED, LONGEST_WITHOUT_PATHS};
 
 /// The rounded quotients of a statement.
-const QUOTIENTS: [&str; 5] = [
+const QUOTIENTS: [&str; 6] = [
     "first quotient",
     "second quotient",
     "what common PARs carry",
     "what non-common PARs carry",
     "amount",
+    "impact",
 ];
 
 const HALVES: [&str; 4] = [
@@ -60,7 +63,7 @@ const ACCEPTED: [&str; 29] = [
     "PARs of each class carry more than 5.7 x 10^16",
     "a unit in zone 32 of 32",
     "a line into zone 32 of 32",
-    "the longest sheet, of 28,004 bytes",
+    "the longest sheet, of 28,101 bytes",
     "the longest listing",
     "256 units in one bucket",
     "2,500 entries in one bucket",
@@ -70,7 +73,8 @@ const ACCEPTED: [&str; 29] = [
     "a PAR's own flow, G, net and final generation differ",
 ];
 
-const OF_ACCEPTED: usize = QUOTIENTS.len() * HALVES.len() + ACCEPTED.len() + wheels::ACCEPTED.len();
+const OF_ACCEPTED: usize =
+    QUOTIENTS.len() * HALVES.len() + ACCEPTED.len() + wheels::ACCEPTED.len() + lake::ACCEPTED.len();
 
 const REFUSED: [&str; 24] = [
     "row 7 by the last of 256 units in one bucket",
@@ -105,8 +109,10 @@ pub fn names() -> Vec<String> {
         .iter()
         .flat_map(|quotient| HALVES.map(|half| format!("{quotient}: {half}")));
     let accepted = ACCEPTED.iter().chain(&wheels::ACCEPTED);
+    let accepted = accepted.chain(&lake::ACCEPTED);
     let refused = REFUSED.iter().chain(&wheels::BEYOND);
-    let others = accepted.chain(refused).chain(&wheels::REFUSED);
+    let refused = refused.chain(&wheels::REFUSED).chain(&lake::REFUSED);
+    let others = accepted.chain(refused);
     halved.chain(others.map(|name| name.to_string())).collect()
 }
 
@@ -121,7 +127,8 @@ pub fn shown(input: &Input, answer: &Answer) -> Vec<usize> {
         Err(refusal) => {
             let rows = refused(input, *refusal);
             let (beyond, cut) = (wheels::beyond(&input.sheet), wheels::refused(&input.sheet));
-            shown(OF_ACCEPTED, &[&rows[..], &beyond, &cut].concat())
+            let lake = lake::refused(input, *refusal);
+            shown(OF_ACCEPTED, &[&rows[..], &beyond, &cut, &lake].concat())
         }
     }
 }
@@ -159,6 +166,8 @@ fn accepted(input: &Input, statement: &Statement) -> Vec<bool> {
     shown.extend(sizes(input, sheet, statement));
     shown.extend(parts::accepted(sheet, balance));
     shown.extend(wheels::accepted(sheet, balance, &statement.flow));
+    let longest = listing(statement).len() == LONGEST_WITHOUT_PATHS;
+    shown.extend(lake::accepted(input, sheet, statement, longest));
     assert_eq!(shown.len(), OF_ACCEPTED);
     shown
 }
@@ -174,7 +183,8 @@ fn halves(sheet: &Sheet, balance: &Balance, statement: &Statement) -> Vec<bool> 
         Rto::Nyiso => 0,
         Rto::Pjm => carried(sheet, balance, Class::NonCommon).0,
     };
-    let difference = statement.flow.market.0 - statement.entitlement.0;
+    let difference = statement.settled.0 - statement.entitlement.0;
+    let quarters = sheet.lake.as_ref().map_or(0, |it| unrounded_impact(it).0);
     let product = difference * statement.payment.price.0 * sheet.head.seconds.0;
     let quotients: [[bool; HALVES.len()]; QUOTIENTS.len()] = [
         halved(first, loads.net_load.0),
@@ -182,6 +192,7 @@ fn halves(sheet: &Sheet, balance: &Balance, statement: &Statement) -> Vec<bool> 
         halved(carried(sheet, balance, Class::Common).0, WHOLE_FACTOR),
         halved(noncommon, WHOLE_FACTOR),
         halved(product, AMOUNT_DIVISOR),
+        halved(quarters, QUARTERS),
     ];
     quotients.concat()
 }
@@ -189,13 +200,14 @@ fn halves(sheet: &Sheet, balance: &Balance, statement: &Statement) -> Vec<bool> 
 /// Differences and limits.
 fn figures(statement: &Statement) -> [bool; 5] {
     let market = statement.flow.market.0;
-    let difference = market - statement.entitlement.0;
+    let difference = statement.settled.0 - statement.entitlement.0;
+    let paid_on = !statement.has_paths;
     [
         difference == 0,
         difference.abs() == 1,
-        market == LARGEST_FLOW.0,
-        market == -LARGEST_FLOW.0,
-        (1..10).contains(&(LARGEST_FLOW.0 - market.abs())),
+        paid_on && market == LARGEST_FLOW.0,
+        paid_on && market == -LARGEST_FLOW.0,
+        paid_on && (1..10).contains(&(LARGEST_FLOW.0 - market.abs())),
     ]
 }
 
@@ -252,14 +264,15 @@ fn accuracy(sheet: &Sheet, statement: &Statement) -> [bool; 5] {
     let remainders = (gtl.first_remainder.0, gtl.second_remainder.0);
     let is_exact = || exact::generation_to_load(sheet, FLOWGATE) == Fraction::whole(gtl.flow.0);
     let flow = exact::market_flow(sheet);
-    let market = statement.flow.market.0;
+    let (market, settled) = (statement.flow.market.0, statement.settled.0);
     let error = (&Fraction::whole(market) - &flow).abs();
     let entitlement = Power(statement.entitlement.0 / Power(1).watts().0);
-    let difference = market - statement.entitlement.0;
-    let exact_side = (&flow - &Fraction::whole(statement.entitlement.0)).signum();
-    let amount = exact::amount(sheet, &flow, entitlement);
+    let difference = settled - statement.entitlement.0;
+    let paid_on = exact::settlement_flow(sheet, entitlement);
+    let exact_side = (&paid_on - &Fraction::whole(statement.entitlement.0)).signum();
+    let amount = exact::amount(sheet, &paid_on, entitlement);
     let amount_error = (&Fraction::whole(statement.payment.amount.0) - &amount).abs();
-    let worth = exact::flow_bound(sheet) * statement.payment.price.0 * sheet.head.seconds.0;
+    let worth = exact::settled_bound(sheet) * statement.payment.price.0 * sheet.head.seconds.0;
     let by_taken = &Fraction::of(worth, AMOUNT_DIVISOR) + &Fraction::of(1, 2);
     [
         remainders != (0, 0) && is_exact(),
@@ -362,11 +375,12 @@ fn in_balance(sheet: &Sheet, refusal: Refusal) -> [bool; REFUSED.len() - 5] {
 /// Row 22 by 9 W or less above and below, and by much that PARs carry.
 fn beyond(sheet: &Sheet, balance: &Balance) -> [bool; 3] {
     let market = market_flow(sheet, balance).market.0;
+    let paid_on = sheet.lake.is_none();
     let carried = carried(sheet, balance, Class::Common).0.abs()
         + carried(sheet, balance, Class::NonCommon).0.abs();
     [
-        (1..10).contains(&(market - LARGEST_FLOW.0)),
-        (1..10).contains(&(-market - LARGEST_FLOW.0)),
+        paid_on && (1..10).contains(&(market - LARGEST_FLOW.0)),
+        paid_on && (1..10).contains(&(-market - LARGEST_FLOW.0)),
         carried > 115_000_000_000_000_000,
     ]
 }

@@ -5,13 +5,16 @@ use std::fmt;
 
 use second::draft;
 use second::layout::{
-    Kind, LOADS, MOST_PARS, MOST_POINTS, MOST_UNITS, MOST_ZONES, PRICES, SCHEDULES,
+    Kind, LOADS, MOST_PARS, MOST_PATHS, MOST_POINTS, MOST_UNITS, MOST_ZONES, PRICES, SCHEDULES,
 };
 use second::names::NameField;
 
 use crate::chance::Chance;
-use crate::interval::{Head, Interval, Par, Point, Record, Scale, Sizes, Unit, Zone, drawn};
-use crate::questions::settle::faults::{above, bad_name, beyond_par_flows};
+use crate::interval::{
+    Circulation, Head, Interval, Par, Path, Point, Record, Scale, Sizes, Unit, Zone, add_lake,
+    drawn,
+};
+use crate::questions::settle::faults::{above, bad_name, beyond_factors, beyond_par_flows};
 use crate::questions::settle::{Expected, Input};
 
 /// What is made faulty: the first record, or one behind sound ones.
@@ -22,7 +25,7 @@ enum Site {
 }
 
 impl Site {
-    const ALL: [Site; 7] = [
+    const ALL: [Site; 9] = [
         Site::First,
         Site::Later(Kind::Head),
         Site::Later(Kind::Zone),
@@ -30,15 +33,20 @@ impl Site {
         Site::Later(Kind::Point),
         Site::Later(Kind::Par),
         Site::Later(Kind::Factor),
+        Site::Later(Kind::Path),
+        Site::Later(Kind::Circulation),
     ];
 
-    /// The rows that such a record can meet. A later head always meets 4.
+    /// The rows that such a record can meet. A later head always meets 4, and no kind is
+    /// above the circulation.
     fn rows(self) -> &'static [u8] {
         match self {
             Site::First => &[3, 6, 8, 9],
             Site::Later(Kind::Head) => &[3, 4, 6, 8, 9],
             Site::Later(Kind::Zone) => &[3, 4, 5, 6, 7, 9],
-            Site::Later(Kind::Factor) => &[3, 10, 11],
+            Site::Later(Kind::Factor) => &[3, 4, 10, 11],
+            Site::Later(Kind::Path) => &[3, 4, 5, 6, 7, 9, 11],
+            Site::Later(Kind::Circulation) => &[3, 5, 9],
             Site::Later(_) => &[3, 4, 5, 6, 7, 8, 9],
         }
     }
@@ -131,11 +139,7 @@ impl Faulty {
     pub fn input(&self, chance: &mut Chance) -> (Input, [Expected; 2]) {
         let interval = self.interval(chance);
         let mut records = interval.content();
-        let at = self.place(chance, &records);
-        let mut record = match self.site {
-            Site::First | Site::Later(Kind::Factor) => records.remove(at),
-            Site::Later(kind) => extra(kind, &interval),
-        };
+        let (at, mut record) = self.taken(chance, &interval, &mut records);
         for row in &self.rows {
             self.plant(chance, &interval, &mut record, *row);
         }
@@ -168,28 +172,54 @@ impl Faulty {
             points: count(Kind::Point, MOST_POINTS),
             pars: count(Kind::Par, MOST_PARS),
         };
-        drawn(chance, sizes, Scale::TINY)
+        let mut interval = drawn(chance, sizes, Scale::TINY);
+        self.add_lake(chance, &mut interval);
+        interval
     }
 
-    /// Where the record goes: behind the last of its kind, or behind a later kind for
-    /// row 4.
-    fn place(&self, chance: &mut Chance, records: &[Record]) -> usize {
-        let kind = |record: &Record| record.bytes()[0];
+    /// Four paths and a circulation, but for the record's own kind one less, or all of
+    /// them for row 5.
+    fn add_lake(&self, chance: &mut Chance, interval: &mut Interval) {
+        add_lake(chance, interval, Scale::TINY);
+        match self.site {
+            _ if self.meets(5) => {}
+            Site::Later(Kind::Path) => interval.paths.truncate(1 + chance.below(MOST_PATHS - 1)),
+            Site::Later(Kind::Circulation) => interval.circulations.clear(),
+            _ => {}
+        }
+    }
+
+    /// The record that is to be made faulty, and where it goes: one that was there, or
+    /// one more behind the last of its kind, or behind a later kind for row 4.
+    fn taken(
+        &self,
+        chance: &mut Chance,
+        interval: &Interval,
+        records: &mut Vec<Record>,
+    ) -> (usize, Record) {
         let Site::Later(site) = self.site else {
-            return 0;
+            return (0, records.remove(0));
         };
-        let later = records.iter().position(|it| kind(it) > site as u8);
-        let later = later.unwrap_or(records.len());
-        if site == Kind::Factor {
-            let first = records.iter().position(|it| kind(it) == site as u8);
-            let first = first.unwrap_or(0);
-            return first + chance.below(records.len() - first);
-        }
-        match self.meets(4) {
-            true if site == Kind::Head => 1 + chance.below(records.len()),
-            true => later + 1 + chance.below(records.len() - later),
-            false => later,
-        }
+        let first = |above: u8, records: &[Record]| {
+            let place = records.iter().position(|it| it.bytes()[0] > above);
+            place.unwrap_or(records.len())
+        };
+        let (own, later) = (first(site as u8 - 1, records), first(site as u8, records));
+        let behind =
+            |chance: &mut Chance, from: usize| from + 1 + chance.below(records.len() - from);
+        let (at, from) = match (site, self.meets(4)) {
+            (Kind::Head, _) => (1 + chance.below(records.len()), None),
+            // The last factor is still due behind the paths.
+            (Kind::Factor, true) => (later + chance.below(records.len() - later), Some(later - 1)),
+            (Kind::Factor, false) => {
+                let at = own + chance.below(later - own);
+                (at, Some(at))
+            }
+            (_, true) => (behind(chance, later), None),
+            (_, false) => (later, None),
+        };
+        let record = from.map(|from| records.remove(from));
+        (at, record.unwrap_or_else(|| extra(site, interval)))
     }
 
     fn plant(&self, chance: &mut Chance, interval: &Interval, record: &mut Record, row: u8) {
@@ -208,11 +238,11 @@ impl Faulty {
             8 => self.bad_code(chance, interval, record),
             9 => self.bad_number(chance, record),
             10 => self.not_due(chance, record),
-            11 => {
-                if let Record::Factor(it) = record {
-                    it.value = chance.pick(&[10_001, -10_001, i16::MAX, i16::MIN]);
-                }
-            }
+            11 => match record {
+                Record::Factor(it) => it.value = beyond_factors(chance),
+                Record::Path(it) => it.factor = beyond_factors(chance),
+                _ => {}
+            },
             _ => {}
         }
     }
@@ -227,7 +257,7 @@ impl Faulty {
             Record::Point(it) if first => it.class = unlisted,
             Record::Point(it) => it.place = chance.pick(&[above, 255]),
             Record::Par(it) => it.class = unlisted,
-            Record::Zone(_) | Record::Factor(_) => {}
+            _ => {}
         }
     }
 
@@ -245,6 +275,8 @@ impl Faulty {
             Record::Point(it) => *it.schedules_mut()[number % 4] = above(chance, &SCHEDULES),
             Record::Par(it) if first => it.actual = beyond_par_flows(chance),
             Record::Par(it) => it.target = beyond_par_flows(chance),
+            Record::Path(it) => it.flow = beyond_par_flows(chance),
+            Record::Circulation(it) => it.flow = beyond_par_flows(chance),
             Record::Factor(_) => {}
         }
     }
@@ -287,6 +319,12 @@ fn extra(kind: Kind, interval: &Interval) -> Record {
             wheel_in: 0,
             wheel_out: 1,
         }),
+        Kind::Path => Record::Path(Path {
+            name,
+            flow: 1,
+            factor: 1,
+        }),
+        Kind::Circulation => Record::Circulation(Circulation { flow: 1 }),
         Kind::Par | Kind::Factor => Record::Par(Par {
             name,
             class: 2,
@@ -302,7 +340,8 @@ fn earlier_name(chance: &mut Chance, interval: &Interval, record: &Record) -> Na
         Record::Unit(_) => interval.units.iter().map(|it| it.name).collect(),
         Record::Point(_) => interval.points.iter().map(|it| it.name).collect(),
         Record::Par(_) => interval.pars.iter().map(|it| it.name).collect(),
-        Record::Head(_) | Record::Factor(_) => vec![EXTRA],
+        Record::Path(_) => interval.paths.iter().map(|it| it.name).collect(),
+        Record::Head(_) | Record::Factor(_) | Record::Circulation(_) => vec![EXTRA],
     };
     chance.pick(&names)
 }

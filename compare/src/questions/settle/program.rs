@@ -45,8 +45,8 @@ fn check_supplied(program: &Program, input: &Input, supplied: [Supply; 2]) -> Re
 pub fn long_files() -> Vec<Input> {
     let (sheet, list) = (draft::sheet_s().concat(), draft::list_s());
     let mut inputs = Vec::new();
-    for length in [28_004, 28_039, 65_535, 65_536, 65_537, 200_000] {
-        for filling in [0, 1, 6, 0x10] {
+    for length in [28_004, 28_101, 28_136, 65_535, 65_536, 65_537, 200_000] {
+        for filling in [0, 1, 6, 7, 8, 0x10] {
             let mut long = Input::of("a long sheet file", sheet.clone(), list.clone());
             long.sheet.resize(length, filling);
             inputs.push(long);

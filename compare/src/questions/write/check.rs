@@ -2,7 +2,7 @@
 
 use crate::mismatch::{Mismatch, same};
 use crate::sides::Sides;
-use crate::sides::drafts::{Draft, Factor, Par, Point, Unit, Written, Zone};
+use crate::sides::drafts::{Circulation, Draft, Factor, Par, Path, Point, Unit, Written, Zone};
 
 /// A buffer in which every stray byte shows.
 fn patterned(length: usize) -> Vec<u8> {
@@ -71,6 +71,8 @@ fn read_again(draft: &Draft) -> Draft {
     again.points[draft.point_count..].fill(Point::NONE);
     again.pars[draft.par_count..].fill(Par::NONE);
     again.factors[draft.factor_count..].fill(Factor::NONE);
+    again.paths[draft.path_count..].fill(Path::NONE);
+    again.circulations[draft.circulation_count..].fill(Circulation::NONE);
     for point in &mut again.points {
         match point.line {
             0 => point.zone = 0,

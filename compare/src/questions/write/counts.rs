@@ -3,8 +3,8 @@
 use second::names::NameField;
 
 use crate::chance::Chance;
-use crate::interval::{Scale, Sizes, drawn};
-use crate::sides::drafts::{Draft, Factor, Par, Point, Unit, Zone};
+use crate::interval::{Scale, Sizes, add_lake, drawn};
+use crate::sides::drafts::{Circulation, Draft, Factor, Par, Path, Point, Unit, Zone};
 
 /// A draft with the row that it meets, and how it was made.
 pub type Made = (String, Box<Draft>, u8);
@@ -29,7 +29,7 @@ const fn kind(name: &'static str, count: fn(&mut Draft) -> &mut usize, cells: us
     }
 }
 
-const KINDS: [Kind; 5] = [
+const KINDS: [Kind; 7] = [
     kind("zones", |it| &mut it.zone_count, 33),
     kind("units", |it| &mut it.unit_count, 257),
     kind("points", |it| &mut it.point_count, 33),
@@ -39,11 +39,18 @@ const KINDS: [Kind; 5] = [
         surplus: 10,
         ..kind("factors", |it| &mut it.factor_count, 2889)
     },
+    kind("paths", |it| &mut it.path_count, 5),
+    // A circulation of zeros is sound, so that it is 28 where there are no paths.
+    Kind {
+        zeros: 28,
+        ..kind("circulations", |it| &mut it.circulation_count, 2)
+    },
 ];
 
 /// Other counts over the same cells, zeros behind those that are used.
 pub fn of(base: &Draft) -> impl Iterator<Item = Made> {
     let mut all = fewer(base);
+    all.extend(parts_of_the_lake(base));
     for kind in KINDS {
         let there = *(kind.count)(&mut base.clone());
         let row = match there + 1 < kind.cells {
@@ -53,6 +60,12 @@ pub fn of(base: &Draft) -> impl Iterator<Item = Made> {
         for count in [there + 1, kind.cells].into_iter().chain(ABOVE) {
             let mut draft = Box::new(*base);
             *(kind.count)(&mut draft) = count;
+            // Zeros are sound here up to the last cell.
+            let row = if row == 28 && count >= kind.cells {
+                kind.surplus
+            } else {
+                row
+            };
             all.push((format!("{count} {}", kind.name), draft, row));
         }
     }
@@ -98,6 +111,29 @@ fn fewer(base: &Draft) -> Vec<Made> {
     all
 }
 
+/// Fewer paths, or no circulation, by themselves and beside rows 12 and 13.
+fn parts_of_the_lake(base: &Draft) -> Vec<Made> {
+    let mut all = Vec::new();
+    let mut with = |paths: usize, circulations: usize, row: u8, less: fn(&mut Draft)| {
+        let mut draft = Box::new(*base);
+        (draft.path_count, draft.circulation_count) = (paths, circulations);
+        less(&mut draft);
+        let what = format!("{paths} paths and {circulations} circulations, row {row}");
+        all.push((what, draft, row));
+    };
+    for paths in 0..=base.path_count {
+        for circulations in 0..=base.circulation_count {
+            let whole = [(0, 0), (4, 1)].contains(&(paths, circulations));
+            with(paths, circulations, if whole { 0 } else { 28 }, |_| {});
+            with(paths, circulations, 13, |it| it.factor_count -= 1);
+            with(paths, circulations, 12, |it| {
+                (it.unit_count, it.factor_count) = (0, 0);
+            });
+        }
+    }
+    all
+}
+
 const EXTRA: NameField = *b"one more of them";
 
 /// As many of a kind as a sheet may have, and one more.
@@ -138,9 +174,12 @@ fn full(chance: &mut Chance, kind: &Kind) -> Box<Draft> {
         "units" => sizes.units = kind.cells - 1,
         "points" => sizes.points = kind.cells - 1,
         "PARs" => sizes.pars = kind.cells - 1,
-        _ => sizes = Sizes::LONGEST,
+        "factors" => sizes = Sizes::LONGEST,
+        _ => {}
     }
-    Box::new(Draft::of(&drawn(chance, sizes, Scale::FULL)))
+    let mut interval = drawn(chance, sizes, Scale::FULL);
+    add_lake(chance, &mut interval, Scale::FULL);
+    Box::new(Draft::of(&interval))
 }
 
 /// A sound record in the last cell of each kind.
@@ -178,6 +217,16 @@ fn fill_last(draft: &mut Draft) {
         index: 33,
         factor: 0,
     };
+    fill_last_of_lake(draft);
+}
+
+fn fill_last_of_lake(draft: &mut Draft) {
+    draft.paths[4] = Path {
+        name: EXTRA,
+        flow: 1,
+        factor: 1,
+    };
+    draft.circulations[1] = Circulation { flow: 1 };
 }
 
 /// The last cell of each kind like the one before it.
@@ -187,6 +236,8 @@ fn repeat_last(draft: &mut Draft) {
     draft.points[32] = draft.points[31];
     draft.pars[8] = draft.pars[7];
     draft.factors[2888] = draft.factors[2887];
+    draft.paths[4] = draft.paths[3];
+    draft.circulations[1] = draft.circulations[0];
 }
 
 /// Spoils the last record but one of a kind: the row that it then meets.
@@ -196,10 +247,12 @@ fn spoil_before(draft: &mut Draft, kind: &str) -> u8 {
         "units" => draft.units[255].zone = 0,
         "points" => (draft.points[31].line, draft.points[31].zone) = (1, 0),
         "PARs" => draft.pars[7].name = draft.pars[0].name,
-        _ => draft.factors[2887].factor = i16::MIN,
+        "factors" => draft.factors[2887].factor = i16::MIN,
+        "paths" => draft.paths[3].factor = i16::MIN,
+        _ => draft.circulations[0].flow = i32::MIN,
     }
     match kind {
-        "zones" => 9,
+        "zones" | "circulations" => 9,
         "units" | "points" => 8,
         "PARs" => 7,
         _ => 11,

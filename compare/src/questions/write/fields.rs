@@ -43,6 +43,7 @@ const FACTORS: [(i16, u8); 8] = [
     (i16::MAX, 11),
     (i16::MIN, 11),
 ];
+/// Those of paths and circulations have the same range.
 const PAR_FLOWS: [(i32, u8); 8] = [
     (0, 0),
     (-1, 0),
@@ -104,6 +105,8 @@ pub fn all(base: &Draft) -> Vec<Alteration> {
     table.each("point", base.point_count, Table::point);
     table.each("PAR", base.par_count, Table::par);
     table.each("factor", base.factor_count, Table::factor);
+    table.each("path", base.path_count, Table::path);
+    table.each("circulation", base.circulation_count, Table::circulation);
     table.all
 }
 
@@ -229,6 +232,24 @@ impl Table {
         });
         self.field("factor", &FACTORS, move |it, value| {
             it.factors[k].factor = value
+        });
+    }
+
+    fn path(&mut self, k: usize) {
+        self.field("name", &names(), move |it, name| it.paths[k].name = name);
+        let earlier = earlier(&self.base.paths[..k], |it| it.name);
+        self.field("name", &earlier, move |it, name| it.paths[k].name = name);
+        self.field("flow", &PAR_FLOWS, move |it, value| {
+            it.paths[k].flow = value
+        });
+        self.field("factor", &FACTORS, move |it, value| {
+            it.paths[k].factor = value
+        });
+    }
+
+    fn circulation(&mut self, k: usize) {
+        self.field("flow", &PAR_FLOWS, move |it, value| {
+            it.circulations[k].flow = value
         });
     }
 }

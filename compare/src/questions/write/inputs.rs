@@ -1,9 +1,10 @@
 //! Sheets and drafts drawn by chance.
 
+use second::layout::LAKE_FLOWS;
 use second::names::NameField;
 
 use crate::chance::Chance;
-use crate::interval::{Scale, Sizes, drawn};
+use crate::interval::{Scale, Sizes, add_lake_to_one_in, drawn};
 use crate::questions::settle;
 use crate::questions::write::{Input, fields};
 use crate::sides::drafts::Draft;
@@ -57,7 +58,9 @@ fn sound(chance: &mut Chance) -> Draft {
         false => Sizes::drawn(chance),
     };
     let scale = Scale::drawn(chance);
-    Draft::of(&drawn(chance, sizes, scale))
+    let mut interval = drawn(chance, sizes, scale);
+    add_lake_to_one_in(3, chance, &mut interval, scale);
+    Draft::of(&interval)
 }
 
 /// A buffer around the sheet's length.
@@ -93,6 +96,8 @@ fn miscount(chance: &mut Chance, draft: &mut Draft) {
         &mut draft.point_count,
         &mut draft.par_count,
         &mut draft.factor_count,
+        &mut draft.path_count,
+        &mut draft.circulation_count,
     ] {
         let (there, fewer) = (*count, count.saturating_sub(1));
         let other = chance.pick(&[0, fewer, there + 1, any, 33, 257, 2889, usize::MAX]);
@@ -128,6 +133,13 @@ fn fill_behind(chance: &mut Chance, draft: &mut Draft) {
         (factor.target, factor.subject) = (chance.below(9) as u8, 1 + chance.below(4) as u8);
         (factor.index, factor.factor) = (chance.below(257) as u16, chance.draw() as i16);
     }
+    for path in &mut draft.paths[draft.path_count..] {
+        (path.name, path.flow) = (name(chance), chance.within(LAKE_FLOWS) as i32);
+        path.factor = chance.draw() as i16;
+    }
+    for circulation in &mut draft.circulations[draft.circulation_count..] {
+        circulation.flow = chance.draw() as i32;
+    }
 }
 
 fn name(chance: &mut Chance) -> NameField {
@@ -137,7 +149,8 @@ fn name(chance: &mut Chance) -> NameField {
 /// Two records of a kind exchanged, or one in the other's place too.
 fn rearrange(chance: &mut Chance, draft: &mut Draft) {
     let keep = chance.one_in(2);
-    match chance.below(5) {
+    match chance.below(6) {
+        5 => move_one(chance, &mut draft.paths[..draft.path_count], keep),
         0 => move_one(chance, &mut draft.zones[..draft.zone_count], keep),
         1 => move_one(chance, &mut draft.units[..draft.unit_count], keep),
         2 => move_one(chance, &mut draft.points[..draft.point_count], keep),

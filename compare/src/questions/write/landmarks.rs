@@ -7,11 +7,11 @@ use crate::sides::drafts::{Draft, Point};
 use crate::tally::Tally;
 
 /// What writing can answer.
-const ROWS: [u8; 11] = [0, 5, 6, 7, 8, 9, 10, 11, 12, 13, 27];
-/// The last row that a sheet can meet.
-const LAST_OF_SHEET: u8 = 13;
+const ROWS: [u8; 12] = [0, 5, 6, 7, 8, 9, 10, 11, 12, 13, 27, 28];
+/// What reading can answer.
+const OF_SHEET: [u8; 15] = [0, 1, 2, 3, 4, 5, 6, 7, 8, 9, 10, 11, 12, 13, 28];
 
-const ACCEPTED: [&str; 14] = [
+const ACCEPTED: [&str; 21] = [
     "a buffer exactly long enough",
     "a buffer one byte longer",
     "the longest sheet",
@@ -26,14 +26,22 @@ const ACCEPTED: [&str; 14] = [
     "a point with wheel out alone",
     "wheel in of 200,000",
     "wheel out of 200,000",
+    "four paths and a circulation",
+    "a path's flow below zero",
+    "a path's factor below zero",
+    "a circulation below zero",
+    "a path's flow of -200,000 and a factor of -10,000",
+    "a path behind its count that is not zero",
+    "a circulation behind its count that is not zero",
 ];
 
-const TOO_SHORT: [&str; 5] = [
+const TOO_SHORT: [&str; 6] = [
     "row 27 by one byte",
     "row 27 of an empty buffer",
     "row 27 of the longest sheet",
     "row 27 of the longest sheet by one byte",
     "row 27 by one byte, wheels on every point",
+    "row 27 by one byte, with paths",
 ];
 
 const INTO_ZONE_0: [&str; 6] = [
@@ -45,7 +53,7 @@ const INTO_ZONE_0: [&str; 6] = [
     "a line into zone 0 with a wheel alone out of range",
 ];
 
-const COUNTS: [&str; 13] = [
+const COUNTS: [&str; 27] = [
     "a 33rd zone",
     "a 257th unit",
     "a 33rd point",
@@ -59,6 +67,20 @@ const COUNTS: [&str; 13] = [
     "row 12 with factors due",
     "row 12 without zones",
     "row 13 without any factor",
+    "a fifth path",
+    "a second circulation",
+    "2^64 - 1 paths",
+    "2^64 - 1 circulations",
+    "row 28 by one path alone",
+    "row 28 by two paths alone",
+    "row 28 by three paths alone",
+    "row 28 by four paths alone",
+    "row 28 by a circulation alone",
+    "row 28 by one path and a circulation",
+    "row 28 by two paths and a circulation",
+    "row 28 by three paths and a circulation",
+    "row 12 where 28 is met too",
+    "row 13 where 28 is met too",
 ];
 
 /// The largest schedule.
@@ -86,7 +108,7 @@ pub fn tally() -> Tally {
         .map(|row| format!("row {row} in a short buffer"));
     let pairs = pairs().into_iter();
     Tally::default()
-        .with("sheets read", (0..=LAST_OF_SHEET).map(told).collect(), true)
+        .with("sheets read", OF_SHEET.map(told).to_vec(), true)
         .with("drafts written", ROWS.map(told).to_vec(), true)
         .with("rows where the buffer is too short", short.collect(), false)
         .with(
@@ -106,9 +128,9 @@ pub fn tally() -> Tally {
 /// Rows of a record, and of a later one.
 fn pairs() -> Vec<[u8; 2]> {
     let every = (6..=11).flat_map(|row| (6..=11).map(move |later| [row, later]));
-    // Behind a factor stands nothing but factors.
+    // Behind a factor stand factors, paths and a circulation, none of which has a code.
     every
-        .filter(|[row, later]| *row < 10 || *later >= 10)
+        .filter(|[row, later]| *row < 10 || *later != 8)
         .collect()
 }
 
@@ -120,7 +142,8 @@ pub fn mark_pair(tally: &mut Tally, rows: Option<[u8; 2]>) {
 }
 
 pub fn mark_sheet(tally: &mut Tally, refusal: u8) {
-    tally.mark(READ, usize::from(refusal));
+    let place = OF_SHEET.iter().position(|row| *row == refusal);
+    tally.mark(READ, place.unwrap_or(0));
 }
 
 /// Counts what a draft showed.
@@ -169,6 +192,7 @@ fn accepted(draft: &Draft, room: usize) -> [bool; ACCEPTED.len()] {
         points.any(|it| holds(it.wheel_in, it.wheel_out))
     };
     let behind = &draft.factors[draft.factor_count..];
+    let unused = &draft.circulations[draft.circulation_count..];
     [
         room == length,
         room == length + 1,
@@ -184,6 +208,18 @@ fn accepted(draft: &Draft, room: usize) -> [bool; ACCEPTED.len()] {
         wheels(|wheel_in, wheel_out| wheel_in == 0 && wheel_out > 0),
         wheels(|wheel_in, _| wheel_in == MOST),
         wheels(|_, wheel_out| wheel_out == MOST),
+        draft.path_count == 4,
+        draft.paths().iter().any(|it| it.flow < 0),
+        draft.paths().iter().any(|it| it.factor < 0),
+        draft.circulations().iter().any(|it| it.flow < 0),
+        draft
+            .paths()
+            .iter()
+            .any(|it| (it.flow, it.factor) == (-200_000, -10_000)),
+        draft.paths[draft.path_count..]
+            .iter()
+            .any(|it| it.flow != 0),
+        unused.iter().any(|it| it.flow != 0),
     ]
 }
 
@@ -197,6 +233,7 @@ fn too_short(draft: &Draft, room: usize) -> [bool; TOO_SHORT.len()] {
         longest(draft),
         by_one && longest(draft),
         by_one && !points.is_empty() && wheels.all(|wheel| wheel > 0),
+        by_one && draft.path_count > 0,
     ]
 }
 
@@ -226,7 +263,7 @@ fn counts(draft: &Draft, refusal: u8) -> [bool; COUNTS.len()] {
     let (pars, factors) = (draft.par_count, draft.factor_count);
     let is = |row| refusal == row;
     let all = usize::MAX;
-    [
+    let shown = [
         is(5) && zones == 33,
         is(5) && zones <= 32 && units == 257,
         is(5) && units <= 256 && points == 33,
@@ -240,5 +277,34 @@ fn counts(draft: &Draft, refusal: u8) -> [bool; COUNTS.len()] {
         is(12) && zones > 0 && factors == 0,
         is(12) && zones == 0,
         is(13) && factors == 0,
+    ];
+    let lake = of_lake(draft, refusal);
+    let shown = [&shown[..], &lake].concat();
+    shown.try_into().expect("one for each name")
+}
+
+/// Surplus paths and circulations, row 28 in its ways, and where it comes later.
+fn of_lake(draft: &Draft, refusal: u8) -> [bool; 14] {
+    let (paths, circulations) = (draft.path_count, draft.circulation_count);
+    let is = |row| refusal == row;
+    let others = draft.zone_count <= 32 && draft.unit_count <= 256;
+    let others = others && draft.point_count <= 32 && draft.par_count <= 8;
+    let by = |of_paths, around| is(28) && (paths, circulations) == (of_paths, around);
+    let part = ![(0, 0), (4, 1)].contains(&(paths, circulations));
+    [
+        is(5) && others && paths == 5,
+        is(5) && others && paths <= 4 && circulations == 2,
+        is(5) && others && paths == usize::MAX,
+        is(5) && others && paths <= 4 && circulations == usize::MAX,
+        by(1, 0),
+        by(2, 0),
+        by(3, 0),
+        by(4, 0),
+        by(0, 1),
+        by(1, 1),
+        by(2, 1),
+        by(3, 1),
+        is(12) && part,
+        is(13) && part,
     ]
 }

@@ -43,7 +43,7 @@ macro_rules! drafts {
                 let mut content = $second::content::content(sheet).expect("an accepted sheet");
                 content.points[0].import = import;
                 let length = $second::write(&content, out).unwrap_or(0);
-                let listing = &mut [0; $second::listing::LONGEST_LISTING];
+                let listing = &mut [0; $crate::sides::LISTING_ROOM];
                 self.report(&out[..length], list, listing)
             }
         }
@@ -69,6 +69,8 @@ macro_rules! content_of_draft {
                     points: draft.points().iter().map(Self::point).collect(),
                     pars: draft.pars().iter().map(Self::par).collect(),
                     factors: draft.factors().iter().map(Self::factor).collect(),
+                    paths: draft.paths().iter().map(Self::path).collect(),
+                    circulations: draft.circulations().iter().map(Self::circulation).collect(),
                 }
             }
 
@@ -121,6 +123,22 @@ macro_rules! content_of_draft {
                     value: factor.factor,
                 }
             }
+
+            fn path(path: &$crate::sides::drafts::Path) -> $second::content::Path {
+                $second::content::Path {
+                    name: path.name,
+                    flow: path.flow,
+                    factor: path.factor,
+                }
+            }
+
+            fn circulation(
+                circulation: &$crate::sides::drafts::Circulation,
+            ) -> $second::content::Circulation {
+                $second::content::Circulation {
+                    flow: circulation.flow,
+                }
+            }
         }
     };
 }
@@ -144,6 +162,8 @@ macro_rules! draft_of_content {
                 draft.point_count = content.points.len();
                 draft.par_count = content.pars.len();
                 draft.factor_count = content.factors.len();
+                draft.path_count = content.paths.len();
+                draft.circulation_count = content.circulations.len();
                 Self::draft_places(content, &mut draft);
                 Self::draft_flows(content, &mut draft);
                 draft
@@ -174,6 +194,12 @@ macro_rules! draft_of_content {
                 for (to, it) in draft.factors.iter_mut().zip(&content.factors) {
                     (to.target, to.subject) = (it.target, it.subject);
                     (to.index, to.factor) = (it.index, it.value);
+                }
+                for (to, it) in draft.paths.iter_mut().zip(&content.paths) {
+                    (to.name, to.flow, to.factor) = (it.name, it.flow, it.factor);
+                }
+                for (to, it) in draft.circulations.iter_mut().zip(&content.circulations) {
+                    to.flow = it.flow;
                 }
             }
         }

@@ -1,6 +1,6 @@
 //! Records and a draft of zeros.
 
-use super::{Draft, Factor, Head, Par, Point, Unit, Zone};
+use super::{Circulation, Draft, Factor, Head, Par, Path, Point, Unit, Zone};
 
 impl Draft {
     /// Zeros in every cell.
@@ -22,6 +22,10 @@ impl Draft {
         pars: [Par::NONE; 9],
         factor_count: 0,
         factors: [Factor::NONE; 2889],
+        path_count: 0,
+        paths: [Path::NONE; 5],
+        circulation_count: 0,
+        circulations: [Circulation::NONE; 2],
     };
 }
 
@@ -70,4 +74,16 @@ impl Factor {
         index: 0,
         factor: 0,
     };
+}
+
+impl Path {
+    pub const NONE: Path = Path {
+        name: [0; 16],
+        flow: 0,
+        factor: 0,
+    };
+}
+
+impl Circulation {
+    pub const NONE: Circulation = Circulation { flow: 0 };
 }

@@ -1,6 +1,6 @@
 //! Drafts and records, from one to the other.
 
-use super::{Draft, Factor, Head, Par, Point, Unit, Zone};
+use super::{Circulation, Draft, Factor, Head, Par, Path, Point, Unit, Zone};
 use crate::interval::{self, Interval, Record};
 
 /// A place that no sheet has: it stands for the line into zone 0 that a draft can say
@@ -25,6 +25,12 @@ impl Draft {
             Record::Point(it) => put(&mut self.points, &mut self.point_count, Point::of(it)),
             Record::Par(it) => put(&mut self.pars, &mut self.par_count, Par::of(it)),
             Record::Factor(it) => put(&mut self.factors, &mut self.factor_count, Factor::of(it)),
+            Record::Path(it) => put(&mut self.paths, &mut self.path_count, Path::of(it)),
+            Record::Circulation(it) => put(
+                &mut self.circulations,
+                &mut self.circulation_count,
+                Circulation { flow: it.flow },
+            ),
         }
     }
 
@@ -42,6 +48,9 @@ impl Draft {
         records.extend(self.points().iter().map(|it| Record::Point(it.record())));
         records.extend(self.pars().iter().map(|it| Record::Par(it.record())));
         records.extend(self.factors().iter().map(|it| Record::Factor(it.record())));
+        records.extend(self.paths().iter().map(|it| Record::Path(it.record())));
+        let circulations = self.circulations().iter();
+        records.extend(circulations.map(|it| Record::Circulation(it.record())));
         records
     }
 }
@@ -179,18 +188,43 @@ impl Factor {
     }
 }
 
+impl Path {
+    fn of(path: &interval::Path) -> Self {
+        Path {
+            name: path.name,
+            flow: path.flow,
+            factor: path.factor,
+        }
+    }
+
+    fn record(&self) -> interval::Path {
+        interval::Path {
+            name: self.name,
+            flow: self.flow,
+            factor: self.factor,
+        }
+    }
+}
+
+impl Circulation {
+    fn record(&self) -> interval::Circulation {
+        interval::Circulation { flow: self.flow }
+    }
+}
+
 #[cfg(test)]
 mod tests {
     use super::*;
     use crate::chance::Chance;
-    use crate::interval::{Scale, Sizes, drawn};
+    use crate::interval::{Scale, Sizes, add_lake, drawn};
 
     #[test]
     fn the_sheet_of_a_draft_is_the_interval_s() {
         for k in 0..50 {
             let chance = &mut Chance::of(8, k);
             let sizes = Sizes::drawn(chance);
-            let interval = drawn(chance, sizes, Scale::FULL);
+            let mut interval = drawn(chance, sizes, Scale::FULL);
+            add_lake(chance, &mut interval, Scale::FULL);
             let sheet = Draft::of(&interval).sheet();
             assert_eq!(sheet, interval.records().concat());
         }

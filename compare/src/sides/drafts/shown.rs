@@ -4,7 +4,7 @@ use std::fmt;
 
 use second::names::NameField;
 
-use super::{Draft, Factor, Par, Point, Unit, Zone};
+use super::{Circulation, Draft, Factor, Par, Path, Point, Unit, Zone};
 
 /// Factors on a line.
 const ABREAST: usize = 8;
@@ -29,7 +29,10 @@ impl fmt::Display for Draft {
             let shown: Vec<String> = abreast.iter().map(factor).collect();
             writeln!(f, "  {}", shown.join("  "))?;
         }
-        Ok(())
+        writeln!(f, "paths {}", self.path_count)?;
+        lines(f, self.paths(), path)?;
+        writeln!(f, "circulations {}", self.circulation_count)?;
+        lines(f, self.circulations(), |it| it.flow.to_string())
     }
 }
 
@@ -41,7 +44,10 @@ impl fmt::Debug for Draft {
         behind(f, &self.units, self.unit_count, &Unit::NONE)?;
         behind(f, &self.points, self.point_count, &Point::NONE)?;
         behind(f, &self.pars, self.par_count, &Par::NONE)?;
-        behind(f, &self.factors, self.factor_count, &Factor::NONE)
+        behind(f, &self.factors, self.factor_count, &Factor::NONE)?;
+        behind(f, &self.paths, self.path_count, &Path::NONE)?;
+        let (cells, count) = (&self.circulations, self.circulation_count);
+        behind(f, cells, count, &Circulation::NONE)
     }
 }
 
@@ -96,6 +102,11 @@ fn par(par: &Par) -> String {
     } = par;
     let name = name(&par.name);
     format!("{name} class {class} actual {actual} target {target}")
+}
+
+fn path(path: &Path) -> String {
+    let Path { flow, factor, .. } = path;
+    format!("{} flow {flow} factor {factor}", name(&path.name))
 }
 
 /// Target, subject and index, then the factor.

@@ -5,23 +5,26 @@ use second::layout::{ENTITLEMENTS, FACTORS, LOADS, MOST_PARS, MOST_POINTS, PAR_F
 use second::payment::LARGEST_FLOW;
 
 use crate::chance::Chance;
-use crate::interval::{Interval, Point, Scale, Sizes, drawn};
-use crate::questions::settle::Expected;
+use crate::interval::{Interval, Point, Scale, Sizes, add_lake, drawn};
 use crate::questions::settle::check::listing_length;
 use crate::questions::settle::directed::{Directed, with_entitlement};
 use crate::questions::settle::inputs::market;
+use crate::questions::settle::{Expected, Input};
 
-/// The longest listing that can be reached. Seven bytes are missing to the sum of all
-/// lines at their longest, 292. One: a first remainder of seven digits needs a G below
+/// The longest listing that can be reached. Nine bytes are missing to the sum of all
+/// lines at their longest, 316. Two: with paths a market flow is settled, or adjusted by
+/// 10^11 W at most, so that it has 12 digits and not 14. The others are missing without
+/// paths too, where the longest has 285 bytes of 292. One: a first remainder of seven digits needs a G below
 /// 2,000,000, a second one a net generation of 2,000,000. Two: loads and outputs bound
 /// imports and exports, so that parallel and shadow flow have at most 1.04 x 10^12 W
 /// together, which is 12 digits each or 13 and 11. Three: with a market flow in range
 /// neither redirect has 14 digits, nor are both below -10^12. One: an amount of 13 digits
-/// has market flow and entitlement on both sides of zero.
-pub const LONGEST_REACHED: usize = 285;
+/// has settlement flow and entitlement on both sides of zero.
+pub const LONGEST_REACHED: usize = 307;
+pub const LONGEST_WITHOUT_PATHS: usize = 285;
 
 pub fn all(chance: &mut Chance) -> Vec<Directed> {
-    let mut all = vec![longest_listing(chance)];
+    let mut all = vec![longest_listing(chance), longest_with_paths(chance)];
     for sign in [1, -1] {
         let aligned = carrying(chance, sign, sign);
         let input = with_entitlement("what PARs carry, all of it", &aligned, 0);
@@ -153,10 +156,35 @@ fn longest_listing(chance: &mut Chance) -> Directed {
         let value = *ENTITLEMENTS.end() as i32;
         with_entitlement("the longest listing", &interval, value)
     });
-    let mut longest = long.filter(|input| listing_length(&input.answer()) == LONGEST_REACHED);
-    let longest = longest.next().expect("one of some dozens is the longest");
     let market = Expected::Line(format!("market {}", -LARGEST_FLOW.0));
-    (longest, vec![Expected::Refusal(0), market])
+    let expected = vec![Expected::Refusal(0), market];
+    (first_of_length(long, LONGEST_WITHOUT_PATHS), expected)
+}
+
+/// Paths that carry 10^11 W beyond the circulation bring the market flow to the limit.
+fn longest_with_paths(chance: &mut Chance) -> Directed {
+    const IMPACT: i64 = 100_000_000_000;
+    let long = (0..10_000).map(|_| {
+        let mut interval = in_range(long_figures(chance), -LARGEST_FLOW.0 - IMPACT);
+        add_lake(chance, &mut interval, Scale::TINY);
+        for path in &mut interval.paths {
+            (path.flow, path.factor) = (200_000, 10_000);
+        }
+        interval.circulations[0].flow = -200_000;
+        let value = *ENTITLEMENTS.end() as i32;
+        with_entitlement("the longest listing, with paths", &interval, value)
+    });
+    let lines = [
+        format!("market {}", -LARGEST_FLOW.0 - IMPACT),
+        format!("settled {}", -LARGEST_FLOW.0),
+    ];
+    let expected = lines.map(Expected::Line).into();
+    (first_of_length(long, LONGEST_REACHED), expected)
+}
+
+fn first_of_length(inputs: impl Iterator<Item = Input>, length: usize) -> Input {
+    let mut long = inputs.filter(|input| listing_length(&input.answer()) == length);
+    long.next().expect("one of some dozens is the longest")
 }
 
 /// Net load 2,000,000 and G x N so that the first quotient is a tie; five wheels in that

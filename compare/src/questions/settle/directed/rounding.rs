@@ -66,10 +66,12 @@ fn much_rounded(chance: &mut Chance, common: usize) -> Interval {
         (par.actual, par.target) = (0, 0);
     }
     // The flowgate's own rounding goes one way, the PARs' the other.
-    let own = worst(chance, &mut interval, FLOWGATE).signum();
+    let most = Fraction::whole(1);
+    let own = worst(chance, &mut interval, FLOWGATE, 40, &most).signum();
     let whole = *FACTORS.end() as i16;
     for target in 1..=MOST_PARS {
-        let alike = worst(chance, &mut interval, target).signum() == own;
+        let error = worst(chance, &mut interval, target, 40, &most);
+        let alike = error.signum() == own;
         interval.flowgate.pars[target - 1] = if alike { -whole } else { whole };
     }
     let lever = interval.pars.len() - 1;
@@ -78,10 +80,20 @@ fn much_rounded(chance: &mut Chance, common: usize) -> Interval {
     interval
 }
 
-/// Draws a target's factors until its rounding is the largest of many; its error.
-fn worst(chance: &mut Chance, interval: &mut Interval, target: usize) -> Fraction {
+/// Draws a target's factors until its rounding is the largest of so many, or is enough;
+/// its error.
+pub fn worst(
+    chance: &mut Chance,
+    interval: &mut Interval,
+    target: usize,
+    draws: usize,
+    enough: &Fraction,
+) -> Fraction {
     let mut worst = Fraction::whole(0);
-    for _ in 0..40 {
+    for _ in 0..draws {
+        if worst.abs() >= *enough {
+            break;
+        }
         let before = interval.clone();
         let factors = match target {
             FLOWGATE => &mut interval.flowgate,
