@@ -1,6 +1,6 @@
 /*
  * The market-to-market settlement of one flowgate and one interval (document 01), of whole hours, and the writer of
- * sheets (document 02, requests 1, 3 and 5), for C and C++.
+ * sheets (document 02, requests 1, 3, 5 and 6), for C and C++.
  *
  *   rt staticlib exports                                        writes target/staticlib/libexports.a
  *   cc -Iinclude my.c target/staticlib/libexports.a -o my
@@ -25,7 +25,7 @@ extern "C" {
 #endif
 
 /* No listing of an accepted statement has more bytes than this. */
-#define M2M_LISTING_ROOM 292
+#define M2M_LISTING_ROOM 316
 
 /*
  * The statement. Flows and entitlement are in watts, the price in cents per MWh, amount and payments in thousandths of
@@ -35,6 +35,7 @@ extern "C" {
 typedef struct m2m_statement {
     uint8_t refusal;
     uint8_t name[16];         /* the flowgate's name, filled with zero bytes on the right */
+    uint8_t has_paths;        /* 1 where the sheet has paths and the Lake Erie circulation, else 0 */
     int64_t gtl;              /* generation-to-load flow */
     int64_t first_remainder;  /* of 10 x G x N by net load */
     int64_t second_remainder; /* of H x final generation by net generation */
@@ -43,6 +44,7 @@ typedef struct m2m_statement {
     int64_t common;           /* redirect of the common PARs */
     int64_t noncommon;        /* redirect of the non-common PARs; 0 where NYISO is the Monitoring RTO */
     int64_t market;           /* market flow */
+    int64_t settled;          /* settlement flow: what is paid on; the market flow where the sheet has no paths */
     int64_t entitlement;      /* the Non-Monitoring RTO's */
     int64_t price;            /* the price taken */
     int64_t amount;
@@ -57,9 +59,9 @@ typedef struct m2m_printed {
 } m2m_printed;
 
 /*
- * What the reader says of a sheet, rows 1 to 13. Accepted: 0, place 0 and how many records of each kind there are.
- * Refused: the number, the place, and zeros. The place is the offset of the offending record's kind byte, or the
- * sheet's length for rows 12 and 13, which are about the sheet's end.
+ * What the reader says of a sheet, rows 1 to 13 and 28. Accepted: 0, place 0 and how many records of each kind there
+ * are. Refused: the number, the place, and zeros. The place is the offset of the offending record's kind byte, or the
+ * sheet's length for rows 12, 13 and 28, which are about the sheet's end.
  */
 typedef struct m2m_sheet {
     uint8_t refusal;
@@ -69,6 +71,8 @@ typedef struct m2m_sheet {
     size_t points;
     size_t pars;
     size_t factors;
+    size_t paths;
+    size_t circulations;
 } m2m_sheet;
 
 /* What the list says of a flowgate, rows 14 and 15: 0 and the entitlement in tenths of a MW, or the number and 0. */
@@ -120,7 +124,9 @@ typedef struct m2m_totals {
 #define M2M_MOST_POINTS 32
 #define M2M_MOST_PARS 8
 #define M2M_MOST_FACTORS 2888
-#define M2M_SHEET_ROOM 28004
+#define M2M_MOST_PATHS 4
+#define M2M_MOST_CIRCULATIONS 1
+#define M2M_SHEET_ROOM 28101
 
 /*
  * The records of a sheet, with the fields and units of docs/FORMAT.md. Any value may stand in a field; the writer refuses
@@ -171,6 +177,17 @@ typedef struct m2m_factor {
     int16_t factor;
 } m2m_factor;
 
+typedef struct m2m_path {
+    uint8_t name[16];
+    int32_t flow; /* the market flow on the path */
+    int16_t factor;
+} m2m_path;
+
+/* The Lake Erie circulation. */
+typedef struct m2m_circulation {
+    int32_t flow;
+} m2m_circulation;
+
 /*
  * A draft of a sheet: its head, and its other records by kind, in order. Each array is one longer than a sheet may have,
  * so that a surplus record can be told. A draft gives the first records of each array, as many as the count says, and all
@@ -188,11 +205,15 @@ typedef struct m2m_draft {
     m2m_par pars[M2M_MOST_PARS + 1];
     size_t factor_count;
     m2m_factor factors[M2M_MOST_FACTORS + 1];
+    size_t path_count;
+    m2m_path paths[M2M_MOST_PATHS + 1];
+    size_t circulation_count;
+    m2m_circulation circulations[M2M_MOST_CIRCULATIONS + 1];
 } m2m_draft;
 
 /*
- * What the reader says of a sheet, rows 1 to 13. Accepted: 0 and its records; cells behind a count are zero, line is 1 of
- * a scheduled line, and zone 0 of a proxy. Refused: the number, and a draft of zeros.
+ * What the reader says of a sheet, rows 1 to 13 and 28. Accepted: 0 and its records; cells behind a count are zero, line
+ * is 1 of a scheduled line, and zone 0 of a proxy. Refused: the number, and a draft of zeros.
  */
 typedef struct m2m_drafted {
     uint8_t refusal;
@@ -225,9 +246,9 @@ m2m_entitled m2m_entitlement(const uint8_t *list, size_t list_length, const uint
 m2m_hour m2m_hour_open(void);
 
 /*
- * Settles a sheet against a list, and adds the interval to the hour. The interval's own refusals, 1 to 22, come first,
- * also in a full hour; then 24, the hour has 60 intervals; 25, its seconds and the interval's are above 3600; 26, it is
- * not empty and of another flowgate name or Monitoring RTO. Nothing is printed, so 23 does not occur.
+ * Settles a sheet against a list, and adds the interval to the hour. The interval's own refusals, 1 to 22 and 28, come
+ * first, also in a full hour; then 24, the hour has 60 intervals; 25, its seconds and the interval's are above 3600; 26,
+ * it is not empty and of another flowgate name or Monitoring RTO. Nothing is printed, so 23 does not occur.
  */
 m2m_changed m2m_hour_add(m2m_hour hour, const uint8_t *sheet, size_t sheet_length, const uint8_t *list,
                          size_t list_length);
@@ -240,10 +261,10 @@ m2m_drafted m2m_read_draft(const uint8_t *sheet, size_t sheet_length);
 
 /*
  * Writes a draft's sheet at the front of the output buffer. Bytes behind the sheet stay as before; on a refusal all do.
- * The refusal is the first that the reader would meet, rows 5 to 13: a surplus record is 5 where it stands, a surplus
- * factor 10. A scheduled line into zone 0 is 8. Then 27: the buffer is shorter than the sheet. One of M2M_SHEET_ROOM
- * bytes never is. What is written is read again as the same records, and the draft of an accepted sheet is written byte
- * for byte as the sheet was. m2m_report settles what is written.
+ * The refusal is the first that the reader would meet, rows 5 to 13 and 28: a surplus record is 5 where it stands, a
+ * surplus factor 10. A scheduled line into zone 0 is 8. Then 27: the buffer is shorter than the sheet. One of
+ * M2M_SHEET_ROOM bytes never is. What is written is read again as the same records, and the draft of an accepted sheet
+ * is written byte for byte as the sheet was. m2m_report settles what is written.
  */
 m2m_written m2m_write_draft(m2m_draft draft, uint8_t *out, size_t out_length);
 

@@ -26,6 +26,7 @@ static void check_draft(const m2m_draft *d) {
     CHECK(d->pars[0].actual == 400 && d->pars[0].target == 380);
     CHECK(d->factor_count == 13 && d->factors[1].factor == -1000);
     CHECK(d->factors[12].target == 1 && d->factors[12].subject == 3 && d->factors[12].index == 2);
+    CHECK(d->path_count == 0 && d->circulation_count == 0 && d->paths[M2M_MOST_PATHS].name[0] == 0);
     CHECK(d->zones[2].name[0] == 0 && d->units[M2M_MOST_UNITS].zone == 0 && d->factors[M2M_MOST_FACTORS].target == 0);
 }
 
@@ -79,6 +80,79 @@ static void check_wheels(m2m_draft d, const file *list) {
     CHECK(again.draft.points[1].wheel_in == 0 && again.draft.points[1].wheel_out == 100);
 }
 
+static m2m_path path(const char *word, int32_t flow, int16_t factor) {
+    m2m_path p = {{0}, flow, factor};
+    memcpy(p.name, word, strlen(word));
+    return p;
+}
+
+/* Sheet S with the paths of the Michigan-Ontario interface, as in samples/lake. */
+static m2m_draft with_paths(m2m_draft d) {
+    d.path_count = 4;
+    d.paths[0] = path("J5D", 200, -300);
+    d.paths[1] = path("B3N", 50, -200);
+    d.paths[2] = path("L4D", 30, 100);
+    d.paths[3] = path("L51D", -10, 100);
+    d.circulation_count = 1;
+    d.circulations[0].flow = 400;
+    return d;
+}
+
+/* Impact: ((800 - 400) x -300 + (200 - 400) x -200 + (120 - 400) x 100 + (-40 - 400) x 100) x 10 by 4, that is -1,520,000
+ * by 4. The adjusted flow, 13,187,500 - 380,000, lies between market flow and entitlement. */
+static void check_paths(m2m_draft d, const file *list) {
+    uint8_t out[M2M_SHEET_ROOM], listing[M2M_LISTING_ROOM];
+    m2m_written w = m2m_write_draft(d, out, sizeof out);
+    m2m_sheet r = m2m_read(out, w.length);
+    CHECK(w.refusal == 0 && w.length == 309 + 4 * 23 + 5 && r.refusal == 0 && r.paths == 4 && r.circulations == 1);
+    m2m_printed p = m2m_report(out, w.length, list->bytes, list->length, listing, sizeof listing);
+    CHECK(p.statement.refusal == 0 && p.statement.has_paths == 1 && p.statement.market == 13187500);
+    CHECK(p.statement.settled == 12807500 && p.statement.amount == 1169792);
+    CHECK(p.length == 181 + 17 && memcmp(listing + 91, "market 13187500\nsettled 12807500\nentitlement", 44) == 0);
+    m2m_drafted again = m2m_read_draft(out, w.length);
+    CHECK(again.refusal == 0 && again.draft.path_count == 4 && again.draft.circulation_count == 1);
+    CHECK(named(again.draft.paths[3].name, "L51D") && again.draft.paths[3].flow == -10);
+    CHECK(again.draft.paths[0].factor == -300 && again.draft.circulations[0].flow == 400);
+    CHECK(again.draft.paths[4].name[0] == 0 && again.draft.circulations[1].flow == 0);
+    r = m2m_read(out, w.length - 5);
+    CHECK(r.refusal == 28 && r.place == w.length - 5 && r.paths == 0 && m2m_read_draft(out, w.length - 5).refusal == 28);
+}
+
+static void check_path_refusals(const m2m_draft *sound, size_t length) {
+    m2m_draft d = *sound;
+    check_refused(&d, length - 1, 27);
+    d.circulation_count = 0;
+    check_refused(&d, 0, 28);
+    d.path_count = 0;
+    d.circulation_count = 1;
+    check_refused(&d, 0, 28);
+    d.path_count = 3;
+    check_refused(&d, length, 28);
+    d.circulation_count = SIZE_MAX;
+    check_refused(&d, length, 5);
+    d = *sound;
+    d.paths[4] = path("L51D", 200001, 0);
+    d.path_count = SIZE_MAX;
+    check_refused(&d, length, 5);
+    d.paths[1].factor = 10001;
+    check_refused(&d, length, 11);
+    d.paths[1].flow = -200001;
+    check_refused(&d, length, 9);
+    memcpy(d.paths[1].name, d.paths[0].name, 16);
+    check_refused(&d, length, 7);
+    d.paths[1].name[0] = 0;
+    check_refused(&d, length, 6);
+    d.factor_count = 14;
+    check_refused(&d, length, 10);
+    d = *sound;
+    d.circulations[0].flow = 200001;
+    check_refused(&d, length, 9);
+    d = *sound;
+    d.factor_count = 12;
+    d.path_count = 1;
+    check_refused(&d, length, 13);
+}
+
 static void check_refusals(const m2m_draft *sound, size_t length) {
     m2m_draft d = *sound;
     check_refused(&d, length - 1, 27);
@@ -120,6 +194,9 @@ int main(int count, char **words) {
     check_altered(d.draft, &sheet, &list);
     check_wheels(d.draft, &list);
     check_refusals(&d.draft, sheet.length);
+    m2m_draft lake = with_paths(d.draft);
+    check_paths(lake, &list);
+    check_path_refusals(&lake, sheet.length + 97);
     d = m2m_read_draft(sheet.bytes, sheet.length - 1);
     CHECK(d.refusal == 3 && d.draft.head.name[0] == 0 && d.draft.zone_count == 0 && d.draft.factors[12].index == 0);
     return failures ? 1 : 0;

@@ -1,6 +1,7 @@
 """What C, Rust and Python declare: of each function's answer the fields with offset and size, and the size of the whole.
 
-Of an array of records two are looked at, which tell where a record's fields stand and how far the next one is.
+Of an array of records two are looked at, which tell where a record's fields stand and how far the next one is; of the
+circulations the one that a sheet may have.
 """
 import ctypes
 import glob
@@ -11,7 +12,7 @@ import sys
 
 ROOT = os.path.dirname(os.path.dirname(os.path.dirname(os.path.abspath(__file__))))
 # The first factors are alike on all sheets.
-LOOKED_AT = {"factors": (17, 18)}
+LOOKED_AT = {"factors": (17, 18), "circulations": (0,)}
 
 
 def looked_at(array):

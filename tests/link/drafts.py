@@ -19,6 +19,8 @@ ARRAYS = {
     ),
     "pars": (("name", "16s"), ("class", "B"), ("actual", "i"), ("target", "i")),
     "factors": (("target", "B"), ("subject", "B"), ("index", "H"), ("factor", "h")),
+    "paths": (("name", "16s"), ("flow", "i"), ("factor", "h")),
+    "circulations": (("flow", "i"),),
 }
 HEAD = (
     ("name", "16s"),
@@ -41,7 +43,7 @@ FIELDS = ["refusal", *(field for field, _ in HEAD), *(field for field, _, _ in e
 
 
 def drawn(chance):
-    """The records of a sheet of two or more of each kind, that passes rows 1 to 13."""
+    """The records of a sheet of two or more of each kind, half of them with paths, that passes rows 1 to 13 and 28."""
     some = chance.randrange
 
     def name():
@@ -55,7 +57,12 @@ def drawn(chance):
         "points": [],
         "pars": [(name(), some(1, 3), some(-200000, 200000), some(-200000, 200000)) for _ in pars],
         "factors": [],
+        "paths": [],
+        "circulations": [],
     }
+    if some(2):
+        records["paths"] = [(name(), some(-200000, 200000), some(-10000, 10000)) for _ in range(4)]
+        records["circulations"] = [(some(-200000, 200000),)]
     for _ in points:
         line = some(2)
         place = (line, some(1, 1 + len(zones)) if line else 0)
@@ -78,6 +85,10 @@ def sheet(head, records):
     return out
 
 
+def zero(form):
+    return b"" if form == "16s" else 0
+
+
 def expected(head, records, length):
     """What the draft's functions say of an accepted sheet."""
     values = {"refusal": bytes(1)}
@@ -88,15 +99,15 @@ def expected(head, records, length):
             value = len(records[field.replace("_count", "s")])
         else:
             array, k, at = place
-            value = records[array][k][at]
+            value = records[array][k][at] if k < len(records[array]) else zero(form)
         values[field] = struct.pack("<" + form, value)
     return {"m2m_read_draft": values, "m2m_write_draft": {"refusal": bytes(1), "length": length}}
 
 
 def refused(number):
     """What they say of a refused sheet; the draft of zeros is refused too, by its name."""
-    zeros = {field: struct.pack("<" + form, b"" if form == "16s" else 0) for field, form in HEAD}
-    zeros.update((field, struct.pack("<" + form, b"" if form == "16s" else 0)) for field, form, _ in elements())
+    zeros = {field: struct.pack("<" + form, zero(form)) for field, form in HEAD}
+    zeros.update((field, struct.pack("<" + form, zero(form))) for field, form, _ in elements())
     return {
         "m2m_read_draft": dict(zeros, refusal=bytes([number])),
         "m2m_write_draft": {"refusal": b"\x06", "length": 0},

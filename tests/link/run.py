@@ -35,13 +35,13 @@ FUNCTIONS = (
 IN_REGISTERS = ("m2m_entitlement", "m2m_write_draft")
 # The fields of each function's answer, as the crates name them.
 STATEMENT = (
-    "refusal name gtl first_remainder second_remainder parallel shadow common noncommon market entitlement price amount"
-    " nyiso pjm"
+    "refusal name has_paths gtl first_remainder second_remainder parallel shadow common noncommon market settled entitlement"
+    " price amount nyiso pjm"
 ).split()
 FIELDS = {
     "m2m_settle": STATEMENT,
     "m2m_report": STATEMENT + ["length"],
-    "m2m_read": "refusal place zones units points pars factors".split(),
+    "m2m_read": "refusal place zones units points pars factors paths circulations".split(),
     "m2m_entitlement": ["refusal", "value"],
     "m2m_hour_open": [],  # all zeros: it stands as in the answer of m2m_hour_add
     "m2m_hour_add": "refusal amounts seconds count name monitoring_rto".split(),
@@ -65,7 +65,7 @@ def name(word):
 
 
 def interval(chance, monitoring):
-    """A sheet of three zones, five units, four points and two PARs, an entitlement list, and the tenths of a MW in it."""
+    """A sheet of three zones, five units, four points and two PARs, some with paths; a list, and the tenths of a MW in it."""
     some = chance.randrange
     prices = some(1, 9999), some(10000, 99999)
     sheet = struct.pack(">B16sBHII", 1, name("F%d" % some(10**9)), monitoring, some(300, 900), *prices)
@@ -83,6 +83,10 @@ def interval(chance, monitoring):
         for subject, count in enumerate((5, 3, 4, 2 if target == 0 else 0), 1):
             for k in range(count):
                 sheet += struct.pack(">BBBHh", 6, target, subject, 1 + k, some(-9999, 9999))
+    if some(3):
+        for k in range(4):
+            sheet += struct.pack(">B16sih", 7, name("J%d" % k), some(-9999, 9999), some(-9999, 9999))
+        sheet += struct.pack(">Bi", 8, some(-9999, 9999))
     value = some(-1000, 1000)
     return sheet, struct.pack(">B16si", 0x10, sheet[1:17], value), value
 
@@ -96,7 +100,10 @@ def expected(sheet, listing, value):
     values = {"refusal": bytes(1), "name": bytes.fromhex(lines.pop("flowgate")).ljust(16, b"\0")}
     values.update(gtl=int(gtl), first_remainder=int(first), second_remainder=int(second))
     values.update((label.lower(), int(figure)) for label, figure in lines.items())
+    paths = "settled" in lines
+    values.update(has_paths=bytes([paths]), settled=values["settled" if paths else "market"])
     counts = dict(refusal=bytes(1), place=0, zones=3, units=5, points=4, pars=2, factors=14 + 24)
+    counts.update(paths=4 * paths, circulations=int(paths))
     return {
         "m2m_settle": values,
         "m2m_report": dict(values, length=len(listing)),
@@ -183,7 +190,7 @@ def seen(raw, folder):
     def refused(number, place):
         zeros = {function: dict.fromkeys(fields, 0) for function, fields in FIELDS.items()}
         for function in FUNCTIONS[:2]:
-            zeros[function].update(refusal=bytes([number]), name=bytes(16))
+            zeros[function].update(refusal=bytes([number]), name=bytes(16), has_paths=bytes(1))
         zeros["m2m_read"].update(refusal=bytes([number]), place=place)
         zeros["m2m_entitlement"].update(refusal=b"\x0e")
         return {**zeros, **hour_of([], sheet, number), **drafts.refused(number)}
@@ -266,7 +273,12 @@ HEADER_EDITS = (
     ("uint8_t refusal;\n    uint8_t name[16];", "uint8_t name[16];\n    uint8_t refusal;"),
     ("uint8_t name[16];", "uint8_t name[17];"),
     ("    m2m_statement statement;\n    size_t length;", "    size_t length;\n    m2m_statement statement;"),
-    ("    size_t factors;\n", "    size_t factors;\n    size_t wheels;\n"),
+    ("    size_t circulations;\n", "    size_t circulations;\n    size_t wheels;\n"),
+    ("    size_t paths;\n    size_t circulations;\n", "    size_t circulations;\n    size_t paths;\n"),
+    ("    uint8_t has_paths; ", "    "),
+    ("uint8_t has_paths; ", "uint32_t has_paths; "),
+    ("market", "settled"),
+    ("    int64_t settled; ", "    "),
     ("uint8_t refusal;\n    size_t place;", "uint32_t refusal;\n    size_t place;"),
     ("uint8_t refusal;\n    int64_t value;", "int64_t value;\n    uint8_t refusal;"),
     ("amounts", "seconds"),
@@ -289,6 +301,10 @@ HEADER_EDITS = (
     ("M2M_MOST_UNITS 256", "M2M_MOST_UNITS 255"),
     ("M2M_MOST_FACTORS 2888", "M2M_MOST_FACTORS 2889"),
     ("    size_t point_count;\n", ""),
+    ("int16_t factor;\n} m2m_path", "int32_t factor;\n} m2m_path"),
+    ("int32_t flow;\n} m2m_circulation", "int64_t flow;\n} m2m_circulation"),
+    ("M2M_MOST_PATHS 4", "M2M_MOST_PATHS 5"),
+    ("    size_t circulation_count;\n", ""),
     ("    uint8_t refusal;\n    m2m_draft draft;", "    m2m_draft draft;\n    uint8_t refusal;"),
     ("    uint8_t refusal;\n    size_t length;", "    size_t length;\n    uint8_t refusal;"),
 )
@@ -297,6 +313,8 @@ RUST_EDITS = (
     ("units", "points"),
     ("market: i64,", "market: i32,"),
     ("shadow: i64,", ""),
+    ("settled: i64,", "settled: i32,"),
+    ("has_paths: u8,", "has_paths: u16,"),
     ("place: usize,", "place: u32,"),
     ("value: i64,", "value: i64, more: i64,"),
     ("amounts: [i64; 60],", "amounts: [i64; 59],"),
@@ -312,6 +330,7 @@ RUST_EDITS = (
     ("index: u16,", "index: u32,"),
     ("actual: i32,", "actual: i64,"),
     ("par_count: usize,", "par_count: u32,"),
+    ("path_count: usize,", "path_count: u32,"),
     ("    pub draft: Draft,\n", ""),
 )
 

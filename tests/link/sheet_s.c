@@ -15,6 +15,7 @@ static void check_figures(m2m_statement s) {
     CHECK(s.common == 4812500);
     CHECK(s.noncommon == 0);
     CHECK(s.market == 13187500);
+    CHECK(s.settled == 13187500 && s.has_paths == 0);
     CHECK(s.entitlement == 10000000);
     CHECK(s.price == 5000);
     CHECK(s.amount == 1328125);
@@ -27,7 +28,7 @@ static void check_refused(m2m_statement s, uint8_t number) {
     CHECK(s.refusal == zeros.refusal && memcmp(s.name, zeros.name, 16) == 0);
     CHECK(s.gtl == 0 && s.first_remainder == 0 && s.second_remainder == 0 && s.parallel == 0 && s.shadow == 0);
     CHECK(s.common == 0 && s.noncommon == 0 && s.market == 0 && s.entitlement == 0 && s.price == 0);
-    CHECK(s.amount == 0 && s.nyiso == 0 && s.pjm == 0);
+    CHECK(s.amount == 0 && s.nyiso == 0 && s.pjm == 0 && s.settled == 0 && s.has_paths == 0);
 }
 
 static void check_listing(const file *sheet, const file *list, const file *listing) {
@@ -51,6 +52,7 @@ static void check_reading(const file *sheet, const file *list) {
     m2m_sheet r = m2m_read(sheet->bytes, sheet->length);
     CHECK(r.refusal == 0 && r.place == 0);
     CHECK(r.zones == 2 && r.units == 2 && r.points == 2 && r.pars == 1 && r.factors == 13);
+    CHECK(r.paths == 0 && r.circulations == 0);
     r = m2m_read(sheet->bytes, 100);
     CHECK(r.refusal == 13 && r.place == 100 && r.zones == 0 && r.factors == 0);
     r = m2m_read(sheet->bytes, 30);

@@ -8,7 +8,7 @@ from . import outputs
 from .inputs import SHEETS, Interval, below
 from .library import FIGURES
 from .outputs import (
-    HEADINGS, LABELS, REMAINDERS, as_lines, columns, csv_line, figure_line, figures_of, heading, json_row,
+    HEADINGS, LABELS, REMAINDERS, as_lines, columns, csv_line, figure_line, figures_of, heading, json_row, listed,
 )
 from .trouble import Trouble, warn
 
@@ -25,11 +25,12 @@ class Pair(NamedTuple):
 
     @property
     def difference(self):
-        """New less old of each figure; None where one of the two is refused."""
+        """New less old of each figure, and whether one has paths; None where one of the two is refused."""
         if self.refusal:
             return None
         old, new = self.old.statement, self.new.statement
-        return SimpleNamespace(**{f.name: getattr(new, f.name) - getattr(old, f.name) for f in FIGURES})
+        values = {f.name: getattr(new, f.name) - getattr(old, f.name) for f in FIGURES}
+        return SimpleNamespace(**values, has_paths=old.has_paths or new.has_paths)
 
 
 def old_sheets(path, arguments, todo):
@@ -69,7 +70,7 @@ class Listing(Both, outputs.Listing):
 
     def difference(self, values):
         lines = []
-        for figure in FIGURES:
+        for figure in listed(values):
             value = str(getattr(values, figure.name))
             if figure.name in REMAINDERS:
                 lines[-1] += " " + value
@@ -82,7 +83,7 @@ class Words(Both, outputs.Words):
     """For people: everyday units beside the exact figures."""
 
     def difference(self, values):
-        figures = (figure for figure in FIGURES if figure.name not in REMAINDERS)
+        figures = (figure for figure in listed(values) if figure.name not in REMAINDERS)
         return [figure_line(figure, values, gained) for figure in figures]
 
 

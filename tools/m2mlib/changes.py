@@ -2,7 +2,7 @@
 
 from typing import NamedTuple
 
-from .drafts import NAMED, Records
+from .drafts import NAMED, WORDS, Records
 from .forms import field_bytes
 from .lines import split_words
 from .records import BY_WORD, Field
@@ -45,7 +45,7 @@ def plain(words):
 def by_word():
     """For what a field may be called, the field of each kind that has it."""
     fields = {}
-    for kind in (*NAMED, "factor"):
+    for kind in WORDS:
         for field in fields_of(kind):
             for word in (field.name, field_word(field)):
                 fields.setdefault(plain(word), {})[kind] = field
@@ -95,19 +95,21 @@ def take_field(left):
         if plain(asked) in FIELDS:
             del left[-count:]
             return asked, FIELDS[plain(asked)]
-    there = (f"\n    {kind}: {listed(kind)}" for kind in (*NAMED, "factor"))
+    there = (f"\n    {kind}: {listed(kind)}" for kind in WORDS)
     raise Fault(f"'{shown(asked)}' is no field; there are" + "".join(there))
 
 
 def take_record(left, fields, records):
-    """The kind and place of the record that the next words name; fields of the head alone need none."""
+    """The kind and place of the record that the next words name; the circulation and the head's own need none."""
+    if "circulation" in fields:
+        return "circulation", records.circulation()
     if left and left[-1].lower() == "of":
         left.pop()
     elif list(fields) == ["head"]:
         return "head", 0
     else:
         raise Fault(f"'of' is missing: {FORM}")
-    if "factor" in fields:
+    if "factor" in fields and records.is_target(left):
         return "factor", records.factor(left)
     if not left:
         raise Fault(f"the record is missing: {FORM}")
@@ -115,7 +117,7 @@ def take_record(left, fields, records):
     if word.lower() == "head":
         return "head", 0
     if word.lower() not in NAMED:
-        return records.only(word, list(fields))
+        return records.only(word, [kind for kind in fields if kind in NAMED])
     if not left:
         raise Fault(f"the {word.lower()}'s name is missing")
     return word.lower(), records.find(word.lower(), left.pop())

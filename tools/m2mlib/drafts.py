@@ -3,10 +3,11 @@
 from .faults import factor_words
 from .forms import field_bytes
 from .lines import name_bytes, name_word
-from .records import BY_WORD
+from .records import BY_NUMBER, BY_WORD, SHEET
 from .trouble import Fault, shown
 
-NAMED = ("head", "zone", "unit", "point", "par")
+WORDS = tuple(BY_NUMBER[number].word for number in SHEET)
+NAMED = tuple(word for word in WORDS if BY_WORD[word].named)
 ATTRIBUTES = {
     "Monitoring RTO": "monitoring_rto",
     "Monitoring price": "monitoring_price",
@@ -15,6 +16,7 @@ ATTRIBUTES = {
     "type": "sort",
     "import": "import_",
     "class": "class_",
+    "circulation": "flow",
 }
 SOME = 8
 
@@ -49,6 +51,7 @@ class Records:
         }
         factors = (cell(draft, "factor", k) for k in range(count(draft, "factor")))
         self.factors = {(factor.target, factor.subject, factor.index): k for k, factor in enumerate(factors)}
+        self.circulations = count(draft, "circulation")
 
     def find(self, kind, word):
         """The place of the record of this kind and name."""
@@ -78,6 +81,16 @@ class Records:
         kind = (fit or called or kinds)[0]
         return kind, self.find(kind, word)
 
+    def circulation(self):
+        """The place of the one circulation."""
+        if not self.circulations:
+            raise Fault("the sheet has no circulation")
+        return 0
+
+    def is_target(self, left):
+        """Whether the next word is a factor's target: a number, or no path can be meant."""
+        return not left or is_numeric(left[-1]) or not self.places["path"] and left[-1].lower() != "path"
+
     def factor(self, left):
         """The place of the factor that the next three words (the next one last) name."""
         if len(left) < 3:
@@ -92,5 +105,9 @@ class Records:
 
     def zone(self, word):
         """A zone's number as a word, from that or from its name."""
-        numbered = word[0].isdigit() or word[0] in "+-"
-        return word if numbered else str(self.find("zone", word) + 1)
+        return word if is_numeric(word) else str(self.find("zone", word) + 1)
+
+
+def is_numeric(word):
+    """Whether a word begins like a number; a name that does stands in quotes where either may."""
+    return word[0].isdigit() or word[0] in "+-"

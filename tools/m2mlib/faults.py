@@ -18,6 +18,7 @@ from .refusals import words_of
 from .words import record_words
 
 END = 1 << 62
+LAKE = ("path", "circulation")
 
 
 class Record(NamedTuple):
@@ -145,8 +146,7 @@ class Check:
             if field.value in ("ZONE", "PLACE"):
                 self.zone(record, field, value)
             if field.low != field.high and not field.low <= value <= field.high:
-                row = 11 if record.data[0] == FACTORS else 9
-                self.tell(record, row, f"{field.name} {value} is not in {field.low}..{field.high}")
+                self.tell(record, field.row, f"{field.name} {value} is not in {field.low}..{field.high}")
 
     def zone(self, record, field, value):
         count = self.counts["zone"]
@@ -155,7 +155,7 @@ class Check:
 
     def factors(self):
         """Factors that are not due, stand twice or out of order, and those that are missing."""
-        if any(self.counts[kind.word] > kind.most > 1 for kind in BY_NUMBER.values()):
+        if any(self.counts[word] > BY_WORD[word].most for word in SUBJECTS):
             return
         due = list(factors_due(self.counts))
         places = {key: place for place, key in enumerate(due)}
@@ -197,6 +197,15 @@ class Check:
             for word in ("zone", "unit"):
                 if not self.counts[word]:
                     self.tell_end(12, f"there is no {word}")
+            self.lake()
+
+    def lake(self):
+        """Four paths and one circulation, or neither."""
+        if not any(self.counts[word] for word in LAKE):
+            return
+        for word in LAKE:
+            if self.counts[word] < BY_WORD[word].most:
+                self.tell_end(28, f"the sheet has {self.counts[word]} of {BY_WORD[word].most} {word}s")
 
 
 def factor_words(key):

@@ -6,9 +6,9 @@ from typing import NamedTuple
 from . import build
 from .trouble import Trouble
 
-ROOM = 292  # include/m2m.h: no listing is longer
+ROOM = 316  # include/m2m.h: no listing is longer
 INTERVALS = 60  # include/m2m.h: no hour holds more
-LONGEST_SHEET = 28_004  # docs/FORMAT.md, 'The longest sheet'
+LONGEST_SHEET = 28_101  # docs/FORMAT.md, 'The longest sheet'
 
 
 class Figure(NamedTuple):
@@ -38,6 +38,7 @@ FIGURES = (
     flow("common", "redirect of the common PARs"),
     flow("noncommon", "redirect of the non-common PARs"),
     flow("market", "market flow"),
+    flow("settled", "settlement flow"),
     flow("entitlement", "entitlement"),
     Figure("price", "cents per MWh", "price taken", 2, "$/MWh"),
     money("amount", "amount"),
@@ -48,11 +49,12 @@ HOUR_FIGURES = (Figure("seconds", meaning="seconds", everyday="min"), *FIGURES[-
 
 
 class Statement(ctypes.Structure):
-    """A refusal's number or 0, the flowgate's name and the figures in order (include/m2m.h)."""
+    """A refusal's number or 0, the flowgate's name, whether there are paths, the figures in order (include/m2m.h)."""
 
     _fields_ = [
         ("refusal", ctypes.c_uint8),
         ("name", ctypes.c_uint8 * 16),
+        ("has_paths", ctypes.c_uint8),
         *((figure.name, ctypes.c_int64) for figure in FIGURES),
     ]
 
@@ -63,12 +65,15 @@ class Printed(ctypes.Structure):
     _fields_ = [("statement", Statement), ("length", ctypes.c_size_t)]
 
 
+COUNTED = ("place", "zones", "units", "points", "pars", "factors", "paths", "circulations")
+
+
 class Sheet(ctypes.Structure):
     """What the reader says: a refusal's number and the offending record's place, or the counts of records."""
 
     _fields_ = [
         ("refusal", ctypes.c_uint8),
-        *((word, ctypes.c_size_t) for word in ("place", "zones", "units", "points", "pars", "factors")),
+        *((word, ctypes.c_size_t) for word in COUNTED),
     ]
 
 
@@ -163,6 +168,18 @@ class Factor(ctypes.Structure):
     ]
 
 
+class Path(ctypes.Structure):
+    """A path of a draft."""
+
+    _fields_ = [("name", NAME), ("flow", ctypes.c_int32), ("factor", ctypes.c_int16)]
+
+
+class Circulation(ctypes.Structure):
+    """The Lake Erie circulation of a draft."""
+
+    _fields_ = [("flow", ctypes.c_int32)]
+
+
 class Draft(ctypes.Structure):
     """What a sheet holds: of each array as many as are counted. Each is one longer than a sheet may have."""
 
@@ -178,6 +195,10 @@ class Draft(ctypes.Structure):
         ("pars", Par * 9),
         ("factor_count", ctypes.c_size_t),
         ("factors", Factor * 2889),
+        ("path_count", ctypes.c_size_t),
+        ("paths", Path * 5),
+        ("circulation_count", ctypes.c_size_t),
+        ("circulations", Circulation * 2),
     ]
 
 

@@ -11,6 +11,7 @@ from .refusals import words_of
 from .words import everyday, name_text, record_at, refusal_words
 
 LABELS = {"nyiso": "NYISO", "pjm": "PJM"}
+PATHS = "has_paths"
 REMAINDERS = ("first_remainder", "second_remainder")
 
 
@@ -95,7 +96,7 @@ def heading(figure):
     return "_".join([LABELS.get(figure.name, figure.name), *figure.unit.split()])
 
 
-HEADINGS = [*ANSWER, *FLOWGATE, *map(heading, FIGURES)]
+HEADINGS = [*ANSWER, *FLOWGATE, PATHS, *map(heading, FIGURES)]
 
 
 def answer(result):
@@ -120,13 +121,19 @@ def columns(result):
     """One interval by headings; a refused one has no figures."""
     statement = result.statement
     values = None if result.refusal else statement
-    return {**answer(result), **flowgate(bytes(statement.name)), **figures_of(values, FIGURES)}
+    paths = {PATHS: values and values.has_paths}
+    return {**answer(result), **flowgate(bytes(statement.name)), **paths, **figures_of(values, FIGURES)}
+
+
+def listed(holder):
+    """The figures that a listing has: the settlement flow is one where the sheet has paths."""
+    return [figure for figure in FIGURES if figure.name != "settled" or holder.has_paths]
 
 
 def accepted_words(statement):
     """The listing's lines with their units: exact figure, everyday figure, meaning."""
     return [name_line(statement)] + [
-        figure_line(figure, statement) for figure in FIGURES if figure.name not in REMAINDERS
+        figure_line(figure, statement) for figure in listed(statement) if figure.name not in REMAINDERS
     ]
 
 
@@ -136,14 +143,23 @@ def name_line(holder):
 
 
 def meaning(figure, holder):
-    """What a figure is; of a payment, who pays."""
+    """What a figure is; of a payment, who pays; of the settlement flow, which of three flows it is."""
     if figure.name == "gtl":
         first, second = (getattr(holder, name) for name in REMAINDERS)
         return f"{figure.meaning}, remainders {first} and {second}"
+    if figure.name == "settled":
+        return f"{figure.meaning}: {middle_one(holder)}"
     if figure.name in LABELS:
         value = getattr(holder, figure.name)
         return f"{figure.meaning} {'receives' if value > 0 else 'pays' if value < 0 else 'pays nothing'}"
     return figure.meaning
+
+
+def middle_one(statement):
+    """Which flow lies in the middle: one that the settlement flow equals, else the adjusted one."""
+    flows = ("market flow", statement.market), ("entitlement", statement.entitlement)
+    same = [f"the {word}" for word, value in flows if value == statement.settled]
+    return " and ".join(same) or "the adjusted flow, market flow and impact"
 
 
 def figure_line(figure, holder, told=meaning):

@@ -45,6 +45,11 @@ class Field:
     def signed(self):
         return self.low < 0
 
+    @cached_property
+    def row(self):
+        """The refusal of a number outside its range."""
+        return 11 if self.wanted == FACTOR else 9
+
 
 @dataclass(frozen=True)
 class Kind:
@@ -85,6 +90,10 @@ def power(name, most, least=0, default=None):
     return Field(name, 4, name.replace(" ", "-") + " N", least, most, TENTHS, default=default)
 
 
+def factor(form):
+    return Field("factor", 2, form, -10_000, 10_000, FACTOR)
+
+
 KINDS = (
     Kind(1, "head", 1, (
         NAME,
@@ -118,8 +127,10 @@ KINDS = (
         Field("target", 1, "TARGET"),
         Field("subject", 1, "SUBJECT", codes=SUBJECTS),
         Field("index", 2, "INDEX"),
-        Field("factor", 2, "VALUE", -10_000, 10_000, FACTOR),
+        factor("VALUE"),
     )),
+    Kind(7, "path", 4, (NAME, power("flow", 200_000, -200_000), factor("factor N"))),
+    Kind(8, "circulation", 1, (Field("circulation", 4, "VALUE", -200_000, 200_000, TENTHS),)),
     Kind(0x10, "entitlement", 2_500, (
         NAME,
         Field("entitlement", 4, "VALUE", -100_000, 100_000, TENTHS),

@@ -69,6 +69,6 @@ def refusal_words(number, sheet, place, entitlements):
             lines.append(("line", f"{line.where}: {line.text.strip()}"))
     lines += [("meaning", refusal.meaning), ("mend", refusal.mend)]
     for given in (sheet, entitlements):
-        if number <= 14 and given.path and (number == 14) == (given is entitlements):
+        if (number <= 14 or number == 28) and given.path and (number == 14) == (given is entitlements):
             lines.append(("", f"'m2m check {given.path}' tells every fault of it"))
     return lines

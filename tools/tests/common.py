@@ -30,6 +30,10 @@ repeat i 1 8
   par T$i common actual 0 target 0
 end
 due $(target * 1000 + subject * 100 + index % 10)
+repeat i 1 4
+  path J$i flow $(i * 10) factor -$i
+end
+circulation -5
 """
 
 

@@ -39,6 +39,21 @@ EACH_FIELD = (
     ("factor of 0 unit 2 -10000", "unit 2 -1000", "unit 2 -10000"),
     ("factor of 1 point 2 7", "1 point 2 0", "1 point 2 7"),
 )
+LAKE_TEXT = TEXT + """path J5D flow 200 factor -300
+path B3N flow 50 factor -200
+path L4D flow 30 factor 100
+path L51D flow -10 factor 100
+circulation 400
+"""
+LAKE = to_bytes(LAKE_TEXT)
+EACH_PATH_FIELD = (
+    ("name of J5D T1", "path J5D", "path T1"),
+    ("flow of B3N -200000", "flow 50", "flow -200000"),
+    ("flow of path L4D 0x10", "flow 30", "flow 0x10"),
+    ("factor of L4D 10000", "flow 30 factor 100", "flow 30 factor 10000"),
+    ("factor of path L51D -1200", "flow -10 factor 100", "flow -10 factor -1200"),
+    ("circulation -200_000", "circulation 400", "circulation -200_000"),
+)
 
 
 def altered(*changes, data=SHEET_S):
@@ -60,6 +75,10 @@ class Understood(unittest.TestCase):
         for change, old, new in EACH_FIELD:
             self.assertEqual(TEXT.count(old), 1, old)
             self.assert_altered(to_bytes(TEXT.replace(old, new)), change)
+            self.assert_altered(to_bytes(LAKE_TEXT.replace(old, new)), change, data=LAKE)
+        for change, old, new in EACH_PATH_FIELD:
+            self.assertEqual(LAKE_TEXT.count(old), 1, old)
+            self.assert_altered(to_bytes(LAKE_TEXT.replace(old, new)), change, data=LAKE)
 
     def test_all_at_once(self):
         changes = [change for change, _, _ in EACH_FIELD if change != "place of P1 line 1"]
@@ -80,6 +99,22 @@ class Understood(unittest.TestCase):
             ("wheel-in of P1 100", "Wheel In of P1 100"), ("wheel-out of P1 100", "wheelout of point P1 0x64"),
         ):
             self.assertEqual(altered(change)[1], altered(same)[1], same)
+        for change, same in (
+            ("factor of path J5D 5", 'Factor Of "J5D" 5'), ("flow of path J5D 5", "FLOW of PATH J5D +5"),
+            ("circulation 5", "Circulation  0x5 # MW"),
+        ):
+            self.assertEqual(altered(change, data=LAKE)[1], altered(same, data=LAKE)[1], same)
+
+    def test_paths_that_are_called_like_numbers_or_words(self):
+        text = LAKE_TEXT.replace("path J5D", 'path "0"').replace("path B3N", "path path")
+        text = text.replace("path L4D", "path unit")
+        data = to_bytes(text)
+        for change, old, new in (
+            ("factor of path 0 5", "factor -300", "factor 5"), ('factor of "0" 5', "factor -300", "factor 5"),
+            ("factor of 0 unit 1 5", "unit 1 3000", "unit 1 5"), ("factor of path path 5", "factor -200", "factor 5"),
+            ('factor of "unit" 5', "30 factor 100", "30 factor 5"), ("flow of 0 5", "flow 200", "flow 5"),
+        ):
+            self.assert_altered(to_bytes(text.replace(old, new)), change, data=data)
 
     def test_names_are_those_of_the_old_sheet(self):
         exchanged = TEXT.replace("zone Z1", "zone Z0").replace("zone Z2", "zone Z1").replace("zone Z0", "zone Z2")
@@ -159,6 +194,23 @@ class Told(unittest.TestCase):
             ("factor of 256 unit 1 5", "target 256 does not fit its 8 bits"),
         ):
             self.assert_told(change, *words)
+        for change, *words in (
+            ("flow of J5D 5", "there is no path J5D; there is none at all"),
+            ("circulation 5", "the sheet has no circulation"),
+            ("factor of path J5D 5", "there is no path J5D; there is none at all"),
+        ):
+            self.assert_told(change, *words)
+        for change, *words in (
+            ("factor of J5E 5", "there is no path J5E; there are J5D, B3N, L4D, L51D"),
+            ("factor of Z1 5", "a zone has no factor; it has name, load, losses"),
+            ("flow of Z1 5", "a zone has no flow"), ("flow of path", "the path's name is missing"),
+            ("factor of zone Z1 5", "a zone has no factor"), ("factor of path", "the path's name is missing"),
+            ("factor of", "target, subject and index of the factor are missing"), ("factor J5D 5", "'of' is missing"),
+            ("factor of 0 unit 3 5", "there is no factor 0 unit 3"),
+            ("load of path J5D 5", "a path has no load; it has name, flow, factor"),
+            ("circulation of lake 5", "of is no whole number"), ("circulation", "the value is missing"),
+        ):
+            self.assert_told(change, *words, data=LAKE)
         self.assert_told("load of Q 5", "Z1, Z2, Z3, Z4, Z5, Z6, Z7, Z8, .. (32 in all)", data=to_bytes(LONGEST))
 
     def test_names_of_several_kinds(self):
@@ -186,6 +238,15 @@ class Told(unittest.TestCase):
             ('name of Z1 "\\q"', "unknown escape"), ("load of Z1 " + "9" * 5000, "does not fit any field"),
         ):
             self.assert_told(change, *words)
+        for change, *words in (
+            ("flow of J5D 12.5", "12.5 is no whole number: whole tenths of a MW"),
+            ("flow of J5D 2147483648", "flow 2147483648 does not fit its 32 bits"),
+            ("factor of J5D", "the value is missing"), ("circulation 5 6", "one word too many"),
+            ("factor of J5D -32769", "factor -32769 does not fit its 16 bits"),
+            ("circulation 1.0", "is no whole number"),
+            ("circulation -2147483649", "circulation -2147483649 does not fit its 32 bits"),
+        ):
+            self.assert_told(change, *words, data=LAKE)
 
     def test_words_without_quotes(self):
         with self.assertRaisesRegex(Trouble, "a change is one argument and stands in quotes: 'import of P1 600'"):

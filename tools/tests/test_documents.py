@@ -3,11 +3,11 @@
 import re
 import unittest
 
-from common import content, draft_of
+from common import content, draft_of, to_bytes
 from m2mlib.changes import listed, read_changes
-from m2mlib.drafts import NAMED
+from m2mlib.drafts import WORDS
 from m2mlib.forms import FORMS
-from m2mlib.library import FIGURES, HOUR_FIGURES, INTERVALS
+from m2mlib.library import FIGURES, HOUR_FIGURES, INTERVALS, LONGEST_SHEET, ROOM
 from m2mlib.manual import manual
 from m2mlib.records import BY_NUMBER, KINDS
 from m2mlib.refusals import refusals
@@ -41,10 +41,10 @@ class Documents(unittest.TestCase):
         self.assertLessEqual(set(DIRECTIVES), set(FORMS))
 
     def test_changes(self):
-        for kind in (*NAMED, "factor"):
+        for kind in WORDS:
             self.assertTrue(f"\n        {kind}: {listed(kind)}\n" in HELP, kind)
             self.assertTrue(f"\n{kind}: {listed(kind)}\n" in FORMAT, kind)
-        draft = draft_of(content("crates/settle/data/sheet.bin"))
+        draft = draft_of(to_bytes(content("samples/lake/sheet.txt")))
         shown = HELP.split("Some changes:\n\n")[1].split("\n\n")[0].splitlines()
         self.assertEqual(len(read_changes([line.strip() for line in shown], draft)), len(shown))
         for line in shown:
@@ -66,13 +66,13 @@ class Documents(unittest.TestCase):
 
     def test_lengths_and_counts_are_formats(self):
         for kind in KINDS[:-1]:
-            most = {1: "1", 6: "as many"}.get(kind.number, f"..{kind.most}")
+            most = {1: "1", 6: "as many", 7: "0 or 4", 8: "0 or 1"}.get(kind.number, f"..{kind.most}")
             line = next(line for line in FORMAT.splitlines() if line.startswith(f"| {kind.number} |"))
             self.assertIn(f"| {kind.length - 1} | {kind.length} |", line)
             self.assertIn(most, line)
 
     def test_every_refusal_has_its_words(self):
-        self.assertEqual(sorted(refusals()), list(range(1, 28)))
+        self.assertEqual(sorted(refusals()), list(range(1, 29)))
         for refusal in refusals().values():
             for words in (refusal.title, refusal.meaning, refusal.mend):
                 self.assertNotIn("|", words)
@@ -85,8 +85,17 @@ class Documents(unittest.TestCase):
         for struct, figures in (("statement", FIGURES), ("totals", HOUR_FIGURES)):
             fields = re.search(r"struct m2m_%s \{(.*?)\}" % struct, header, re.S).group(1)
             declared = re.findall(r"\bu?int\d+_t (\w+);", fields)
-            self.assertEqual([field for field in declared if field != "refusal"], [f.name for f in figures])
-        self.assertIn(f"#define M2M_HOUR_INTERVALS {INTERVALS}\n", header)
+            declared = [field for field in declared if field not in ("refusal", "has_paths")]
+            self.assertEqual(declared, [f.name for f in figures])
+        for name, value in (
+            ("HOUR_INTERVALS", INTERVALS), ("LISTING_ROOM", ROOM), ("SHEET_ROOM", LONGEST_SHEET),
+            ("MOST_PATHS", BY_NUMBER[7].most), ("MOST_CIRCULATIONS", BY_NUMBER[8].most),
+        ):
+            self.assertIn(f"#define M2M_{name} {value}\n", header)
+        self.assertEqual(FORMAT.count(f"{ROOM} bytes"), 3)
+        self.assertIn(f"a buffer of {ROOM} bytes", refusals()[23].mend)
+        self.assertIn(f"| all | | {LONGEST_SHEET:,} |\n", FORMAT)
+        self.assertIn(f"the first {LONGEST_SHEET + BY_NUMBER[4].length:,} bytes of a sheet", FORMAT)
 
 
 if __name__ == "__main__":

@@ -18,13 +18,14 @@ WORDS = (
     " bytes again from the text (m2m text sheet), or put 8 zero bytes behind each point's export\n"
 )
 WITHOUT_POINTS = "head F monitoring PJM seconds 300 prices 5000 2000\ninclude tests/parts/plain.txt\n"
+LAKE = to_bytes(content("samples/lake/sheet.txt"))
 ONE_POINT = "head F monitoring PJM seconds 300 prices 5000 2000\npoint P common proxy import 0 export 0\n"
 
 
 class Decided(unittest.TestCase):
     def test_the_earlier_form(self):
         self.assertEqual((len(EARLIER_S), EARLIER_S[149:152]), (293, b"\x04P2"))
-        for sheet in (SHEET_S, to_bytes(LONGEST), to_bytes(ONE_POINT)):
+        for sheet in (SHEET_S, to_bytes(LONGEST), to_bytes(ONE_POINT), LAKE):
             self.assertTrue(is_earlier(earlier(sheet)))
             self.assertFalse(is_earlier(sheet))
             self.assertTrue(faults(earlier(sheet), SHEET))
@@ -39,7 +40,8 @@ class Decided(unittest.TestCase):
     def test_other_bytes(self):
         without = to_bytes(WITHOUT_POINTS)
         for data in (
-            b"", without, without[:-1], SHEET_S[:-1], EARLIER_S[:-1], EARLIER_S[28:], EARLIER_S + b"\0",
+            b"", without, without[:-1], without + LAKE[309:], without + LAKE[309:332], without + LAKE[401:],
+            SHEET_S[:-1], EARLIER_S[:-1], EARLIER_S[28:], EARLIER_S + b"\0",
             EARLIER_S + EARLIER_S[28:53], b"\x10" + EARLIER_S, EARLIER_S[:122] + EARLIER_S[149:] + EARLIER_S[122:149],
         ):
             self.assertFalse(is_earlier(data), data.hex())

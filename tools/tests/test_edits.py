@@ -9,7 +9,7 @@ from m2mlib.changes import read_changes
 from m2mlib.edits import edited, patched
 from m2mlib.text import Text
 from m2mlib.trouble import Trouble
-from test_changes import EACH_FIELD, TEXT
+from test_changes import EACH_FIELD, EACH_PATH_FIELD, LAKE_TEXT, TEXT
 
 PATH = os.path.join(SAMPLE, "sheet.txt")
 MANY = """# Many
@@ -44,6 +44,16 @@ class InPlace(unittest.TestCase):
     def test_every_field(self):
         for change, old, new in EACH_FIELD:
             self.assert_edited(TEXT, TEXT.replace(old, new), change)
+        for change, old, new in EACH_PATH_FIELD:
+            self.assert_edited(LAKE_TEXT, LAKE_TEXT.replace(old, new), change)
+
+    def test_paths_as_they_were_typed(self):
+        text = LAKE_TEXT.replace("path J5D flow 200", "\tPATH  J5D FLOW  $(2 * 100)  ")
+        text = text.replace("circulation 400", "circulation  0x190# MW")
+        for old, new, change in (
+            ("$(2 * 100)", "7", "flow of J5D 7"), ("-300", "7", "factor of J5D 7"), ("0x190", "7", "circulation 7"),
+        ):
+            self.assert_edited(text, text.replace(old, new), change)
 
     def test_several_of_a_line(self):
         line = 'head "A\\\\B" monitoring PJM seconds 300 prices 5000 2000'
@@ -139,6 +149,13 @@ class Behind(unittest.TestCase):
         once = text + line + " # more\n"
         again = once.replace("100 #", "100 wheel-out 7 #")
         self.assertEqual(with_changes(once, "wheel-out of P2 7").decode(), again)
+
+    def test_paths(self):
+        text = TEXT + "repeat i 1 4\npath J$i flow 0 factor 0\nend\ncirculation 4\n"
+        line = "replace 23 path J2 flow 5 factor -6"
+        self.assert_behind(text, line, changes=["flow of J2 5", "factor of path J2 -6"])
+        again = (text + line + "\n").replace("circulation 4", "circulation -1").replace("flow 5", "flow 9")
+        self.assertEqual(with_changes(text + line + "\n", "circulation -1", "flow of J2 9").decode(), again)
 
     def test_included_texts(self):
         text = "include samples/sheet-s/sheet.txt # as it is\n"

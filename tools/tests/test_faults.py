@@ -12,6 +12,12 @@ zone Z load 1000 losses 0
 unit U zone 1 output 1000
 due 0
 """
+PATHS = """path J1 flow 0 factor 1
+path J2 flow 0 factor 2
+path J3 flow 0 factor 3
+path J4 flow 0 factor 4
+circulation 4
+"""
 
 
 class Faults(unittest.TestCase):
@@ -29,6 +35,7 @@ class Faults(unittest.TestCase):
     def test_sound_texts(self):
         self.assert_told(SOUND)
         self.assert_told(content("samples/sheet-s/sheet.txt"))
+        self.assert_told(content("samples/lake/sheet.txt"))
         self.assert_told(content("samples/sheet-s/entitle.txt"), name="entitle.txt")
         self.assert_told("", name="entitle.txt")
 
@@ -87,7 +94,54 @@ factors 0 zone 1 20000
             SOUND.replace("due 0", pars), "line 5: par 9, T9: one too many: 8 are allowed (refusal 5)"
         )
 
+    def test_paths(self):
+        self.assert_told(SOUND + PATHS)
+        faulty = PATHS.replace("J2 flow 0", "J1 flow 200_001").replace("factor 3", "factor -10001")
+        self.assert_told(
+            SOUND + faulty + "circulation x\n",
+            "line 6: path 2, J1: name repeated: line 5 has it already (refusal 7)",
+            "line 6: path 2, J1: number out of range: flow 200001 is not in -200000..200000 (refusal 9)",
+            "line 7: path 3, J3: factor out of range: factor -10001 is not in -10000..10000 (refusal 11)",
+            "line 10: circulation: one too many: 1 are allowed (refusal 5)",
+            "line 10: x is no whole number: whole tenths of a MW are wanted",
+        )
+        more = 'path "" flow 0 factor 0\ncirculation -200_001'
+        self.assert_told(
+            SOUND + PATHS.replace("circulation 4", more) + "factor 0 unit 1 0\n",
+            "line 9: path 5, \"\": one too many: 4 are allowed (refusal 5)",
+            "line 9: path 5, \"\": not a name: it is empty (refusal 6)",
+            "line 10: circulation: number out of range: circulation -200001 is not in -200000..200000 (refusal 9)",
+            "line 11: factor 3: out of order, or a second head: it stands behind a circulation (refusal 4)",
+            "line 11: factor 3: not the factor due: line 4 has the factor 0 unit 1 already (refusal 10)",
+        )
+
+    def test_paths_or_circulation_missing(self):
+        first, second, third, fourth, circulation = PATHS.splitlines(True)
+        fewer, none = "the sheet has %d of 4 paths (refusal 28)", "the sheet has 0 of 1 circulations (refusal 28)"
+        for lines, *told in (
+            (first, fewer % 1, none), (first + second, fewer % 2, none), (first + circulation, fewer % 1),
+            (first + second + third + circulation, fewer % 3), (first + second + third, fewer % 3, none),
+            (first + second + third + fourth, none), (circulation, fewer % 0),
+        ):
+            self.assert_told(SOUND + lines, *(f"the end: paths or circulation missing: {words}" for words in told))
+        self.assert_told(
+            SOUND.replace("due 0\n", "") + first + second + third + "circulation 4.0",
+            "line 7: 4.0 is no whole number",
+            "the end: factors still due: the factor 0 unit 1 is missing (refusal 13)",
+            "the end: factors still due: the factor 0 zone 1 is missing (refusal 13)",
+            "the end: paths or circulation missing: " + fewer % 3,
+        )
+
+    def test_factors_are_judged_beside_five_paths(self):
+        self.assert_told(
+            SOUND.replace("due 0\n", "factor 0 unit 1 0\n") + PATHS.replace("circ", "path J5 flow 0 factor 0\ncirc"),
+            "line 9: path 5, J5: one too many: 4 are allowed (refusal 5)",
+            "the end: factors still due: the factor 0 zone 1 is missing (refusal 13)",
+        )
+
     def test_damaged_bytes(self):
+        self.assert_told(SOUND + "raw 07", "line 5: path 1, of which 1 of 23 bytes are there: body cut short")
+        self.assert_told(SOUND + "raw 08", "line 5: circulation, of which 1 of 5 bytes are there: body cut short")
         self.assert_told(SOUND + "raw 09", "line 5: a byte 0x09 where a record should begin: unknown kind")
         self.assert_told(SOUND + "cut 1", "line 4: factor 2, of which 6 of 7 bytes are there: body cut short")
         self.assert_told(

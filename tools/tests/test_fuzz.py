@@ -16,12 +16,13 @@ from m2mlib.forms import FORMS, show
 from m2mlib.records import kinds_of
 from m2mlib.text import DIRECTIVES, Text
 from m2mlib.trouble import Trouble
-from test_changes import EACH_FIELD
+from test_changes import EACH_FIELD, EACH_PATH_FIELD, LAKE_TEXT
 
 COUNT = 20_000
 WORDS = [
     *(word.encode() for word in (*FORMS, *DIRECTIVES)), b"head", b"zone", b"unit", b"point", b"par",
     b"factor", b"entitlement", b"line", b"proxy", b"wheel-in", b" wheel-out 1",
+    b"path", b"circulation", b"flow", b"circulation 1\n",
     b"$i", b"$(i", b"$((1)", b")", b'"', b'"$', b"\\x",
     b"#", b"\r", b"\n", b"\r\n", b"\0", b"\xff", b"\xef\xbb\xbf", b"\xc3\xbc", b"-", b"-1", b"0x", b"1e9",
     b"120.0", b"1,200", b"99999999999999999999", b"1 99", b"due $(target)", b"end", b"repeat i 1 3\n",
@@ -31,7 +32,8 @@ WORDS = [
 
 def texts():
     """Sound texts to begin with: the samples', and the sections of the cases that are short."""
-    sound = [content("samples", name) for name in ("sheet-s/sheet.txt", "sheet-s/entitle.txt", "wheels/sheet.txt")]
+    names = "sheet-s/sheet.txt", "sheet-s/entitle.txt", "wheels/sheet.txt", "lake/sheet.txt"
+    sound = [content("samples", name) for name in names]
     for path in case_files([os.path.join(ROOT, "tests/cases")]):
         lines = content(path).splitlines(True)
         text = b"".join(line for line in lines if line.startswith(b" "))
@@ -77,8 +79,8 @@ class Fuzz(unittest.TestCase):
         self.assertGreater(min(accepted, refused), COUNT // 10)
 
     def test_damaged_changes(self):
-        chance, text = random.Random(13), Text("/fuzz/text").read(content("samples/sheet-s/sheet.txt"))
-        draft, sound = draft_of(text.data()), [change.encode() for change, _, _ in EACH_FIELD]
+        chance, text = random.Random(13), Text("/fuzz/text").read(LAKE_TEXT.encode())
+        draft, sound = draft_of(text.data()), [change.encode() for change, _, _ in EACH_FIELD + EACH_PATH_FIELD]
         accepted = refused = 0
         for _ in range(COUNT // 2):
             said = [damaged(chance.choice(sound), chance).decode("latin-1") for _ in range(chance.choice((1, 1, 2)))]

@@ -25,6 +25,10 @@ class Shown(unittest.TestCase):
             self.assertEqual(show(to_bytes(line + words), SHEET), line + words + "\n")
         self.assertEqual(show(to_bytes(line + " wheel-in 0 wheel-out 0"), SHEET), line + "\n")
 
+    def test_paths(self):
+        lines = "path J5D flow -200000 factor 0\npath \"\\x01\" flow 0 factor -32768\ncirculation 0\ncirculation -1\n"
+        self.assertEqual(show(to_bytes(lines), SHEET), lines)
+
     def test_any_bytes(self):
         chance = random.Random(1)
         for length in range(200):

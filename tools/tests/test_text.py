@@ -37,6 +37,9 @@ class Records(unittest.TestCase):
                 "05 54310000000000000000000000000000 01 ffffffff 0000017c",
             ),
             ("factor 8 point 32 -10000", "06 08 03 0020 d8f0"),
+            ("path J5D flow 200000 factor -300", "07 4a354400000000000000000000000000 00030d40 fed4"),
+            ("path L51D flow -1 factor 10000", "07 4c353144000000000000000000000000 ffffffff 2710"),
+            ("circulation -200000", "08 fffcf2c0"),
             ('entitlement "\\x01\\xff\\"" -100', "10 01ff2200000000000000000000000000 ffffff9c"),
         ):
             self.assertEqual(to_bytes(text), bytes.fromhex(digits))
@@ -71,6 +74,15 @@ class Records(unittest.TestCase):
             self.assertEqual(to_bytes(line + words)[:27], to_bytes(line)[:27], words)
         self.assertEqual(to_bytes('point wheel-in 1 line 1 import 1 export 2 # wheel-in 3')[27:], bytes(8))
 
+    def test_the_sample_with_paths(self):
+        data, sheet_s = to_bytes(content("samples/lake/sheet.txt")), content("crates/settle/data/sheet.bin")
+        self.assertEqual((len(data), data[:309]), (406, sheet_s))
+        self.assertEqual([data[at] for at in (309, 332, 355, 378, 401)], [7, 7, 7, 7, 8])
+
+    def test_paths_make_no_factor_due(self):
+        paths = "path J flow 0 factor 0\ncirculation 0\n"
+        self.assertEqual(to_bytes(ZONES + paths + "due 0")[50 + 28 :], to_bytes(ZONES + "due 0")[50:])
+
     def test_zones_by_name(self):
         for line in ("unit U zone B output 1", 'unit U zone "B" output 1', "unit U zone 2 output 1"):
             self.assertEqual(to_bytes(ZONES + line)[50:], to_bytes("unit U zone 2 output 1"))
@@ -97,7 +109,7 @@ class Records(unittest.TestCase):
 
 class Shortened(unittest.TestCase):
     def test_the_longest_sheet_in_a_few_lines(self):
-        self.assertEqual(len(to_bytes(LONGEST)), 28_004)
+        self.assertEqual(len(to_bytes(LONGEST)), 28_101)
 
     def test_a_full_list(self):
         self.assertEqual(len(to_bytes("repeat k 1 2500\nentitlement F$k $(k - 1)\nend")), 2500 * 21)
@@ -170,6 +182,10 @@ class Refused(unittest.TestCase):
             "include no/such/file", "include samples", "factors 0 unit", "factor 0 unit 1 $(1",
             "factor 0 unit 1 $(1 // 0)", "factor 0 unit 1 $(2 +)", "factor 0 unit 1 $()",
             "unit U zone Q output 1", "unit U zone 300 output 1", "point P common beside import 1 export 1",
+            "path J flow 1", "path J flow x factor 1", "path J 1 1", "path J factor 1 flow 1",
+            "path J flow 1 factor 32768", "path J flow 2147483648 factor 1", "path J flow 1 factor 1 1",
+            "path ABCDEFGHIJKLMNOPQ flow 0 factor 0",
+            "circulation", "circulation 1 1", "circulation flow 1", "circulation 2147483648", "circulation C 1",
             "point P common line", "zone Z load 1 losses 1 more", "sheet", "zone Z load 0x losses 0",
             "point P common proxy import 1 export 1 wheel-in", "point P common proxy import 1 export 1 wheel-out x",
             "point P common proxy import 1 export 1 wheel-out 1 wheel-in 1",
@@ -189,6 +205,8 @@ class Refused(unittest.TestCase):
             ("zoen Z load 1 losses 2", "zone NAME load N losses N"),
             ('unit "U zone 1 output 1', "unit NAME zone ZONE output N"),
             ("point P common", "point NAME CLASS line ZONE import N export N [wheel-in N] [wheel-out N]"),
+            ("path J flow 1", "path NAME flow N factor N"), ("circulation", "circulation VALUE"),
+            ("paht J flow 1 factor 1", "path NAME flow N factor N"), ("circulaton 1", "circulation VALUE"),
             ("cut", "cut N"),
             ("repeat i", "repeat VAR FROM TO"),
         ):
@@ -198,6 +216,9 @@ class Refused(unittest.TestCase):
         for line, sentence in (
             ("zone Z load 120.0 losses 0", "120.0 is no whole number: whole tenths of a MW are wanted"),
             ("zone Z load 1,200 losses 0", "1,200 is no whole number: whole tenths of a MW are wanted"),
+            ("path J flow 12.5 factor 1", "12.5 is no whole number: whole tenths of a MW are wanted"),
+            ("path J flow 125 factor 0.3", "0.3 is no whole number: whole ten-thousandths are wanted"),
+            ("circulation 40.0", "40.0 is no whole number: whole tenths of a MW are wanted"),
             ("factor 0 unit 1 0.3", "whole ten-thousandths are wanted (0.3 is 3000)"),
             ("head F monitoring PJM seconds 300 prices 50.00 1", "whole cents per MWh are wanted"),
             ("head F monitoring ERCOT seconds 300 prices 50 1", "one of NYISO, PJM is wanted"),

@@ -15,7 +15,7 @@ sys.path.insert(0, os.path.dirname(os.path.dirname(os.path.abspath(__file__))))
 
 from common import ROOT, SAMPLE, content, run, to_bytes, write  # noqa: E402
 from m2mlib.library import FIGURES, Library  # noqa: E402
-from m2mlib.outputs import LABELS, heading  # noqa: E402
+from m2mlib.outputs import LABELS, REMAINDERS, heading  # noqa: E402
 from m2mlib.verbs import call_verb  # noqa: E402
 
 TEXT = content("samples/sheet-s/sheet.txt").decode()
@@ -26,6 +26,7 @@ OTHERS = (
     MORE, TEXT, TEXT.replace("PJM", "NYISO"), TEXT.replace("output 2000", "output 3001"),
     TEXT.replace("par 1 2500", "par 1 -2500"), TEXT.replace("seconds 300", "seconds 7"),
 )
+LAKE = content("samples/lake/sheet.txt").decode()
 library = Library()
 
 
@@ -68,10 +69,10 @@ class Against(unittest.TestCase):
             self.assertEqual(old.rstrip("\n"), LISTING.rstrip("\n"))
             self.assertEqual(other.rstrip("\n"), called(new, LIST)[1].rstrip("\n"))
             sums = [one + by for one, by in zip(numbers(old), numbers(difference))]
-            self.assertEqual((sums, len(sums)), (numbers(other), len(FIGURES)))
+            self.assertEqual((sums, len(sums)), (numbers(other), len(FIGURES) - 1))
 
     def test_rows(self):
-        for text in OTHERS:
+        for text in (*OTHERS, LAKE):
             new = self.new(text)
             (row,) = json.loads(called("--json", "--against", OLD, new, LIST)[1])
             for part, path in (("old", OLD), ("new", new)):
@@ -82,12 +83,27 @@ class Against(unittest.TestCase):
             flat = {f"{part}_{key}": value for part, values in row.items() for key, value in values.items()}
             self.assertEqual(line, {key: "" if value is None else str(value) for key, value in flat.items()})
 
+    def test_paths(self):
+        """The difference has a line 'settled' where one of the two has paths; the other's is its market flow."""
+        plain, lake = OLD, self.new(LAKE, "lake.txt")
+        more = self.new(LAKE.replace("circulation 400", "circulation 0"), "more.txt")
+        for old, new, market, settled in (
+            (plain, lake, 0, -380000), (lake, plain, 0, 380000), (lake, more, 0, -300000), (lake, lake, 0, 0),
+        ):
+            status, output, _ = called("--against", old, new, LIST)
+            (_, _), (_, _), (head, difference) = parts_of(output)
+            self.assertEqual((status, head), (0, "new - old"))
+            self.assertIn(f"\nmarket {market}\nsettled {settled}\nentitlement 0\n", difference)
+            words = parts_of(called("--words", "--against", old, new, LIST)[1])[2][1].splitlines()
+            line = f"settled {settled / 10**6:.6f} MW {settled} W settlement flow"
+            self.assertEqual(" ".join(words[6].split()), line)
+
     def test_words(self):
         status, output, _ = called("--words", "--against", OLD, self.new(MORE), LIST)
         (_, old), _, (_, difference) = parts_of(output)
         self.assertEqual((status, old.rstrip("\n")), (0, content("samples/sheet-s/words.txt").decode().rstrip("\n")))
         lines = difference.splitlines()
-        self.assertEqual(len(lines), len(FIGURES) - 2)
+        self.assertEqual(len(lines), len(FIGURES) - 3)
         for line in (
             "market 0.150000 MW 150000 W market flow", "gtl -0.350000 MW -350000 W generation-to-load flow",
             "NYISO -0.62500 $ -62500 thousandths of a cent NYISO loses",
@@ -164,7 +180,7 @@ class Against(unittest.TestCase):
         self.assertIn("\nmarket 150000\n", difference)
         self.assertIn("\namount 62500\n", difference)
         self.assertEqual([line.split()[0] for line in difference.splitlines()],
-                         [LABELS.get(f.name, f.name) for f in FIGURES if "remainder" not in f.name])
+                         [LABELS.get(f.name, f.name) for f in FIGURES if f.name not in ("settled", *REMAINDERS)])
 
 
 if __name__ == "__main__":

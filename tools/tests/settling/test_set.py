@@ -20,7 +20,7 @@ from m2mlib.library import LONGEST_SHEET, Draft, Library  # noqa: E402
 from m2mlib.refusals import refusals  # noqa: E402
 from m2mlib.trouble import Trouble  # noqa: E402
 from m2mlib.verbs import call_verb  # noqa: E402
-from test_changes import EACH_FIELD, TEXT  # noqa: E402
+from test_changes import EACH_FIELD, EACH_PATH_FIELD, LAKE, LAKE_TEXT, TEXT  # noqa: E402
 from test_fuzz import damaged  # noqa: E402
 
 SHEET_S = content("crates/settle/data/sheet.bin")
@@ -90,8 +90,27 @@ class Drafts(unittest.TestCase):
             self.assertEqual(library.write_draft(draft), (number, b""), (name, word))
             self.assertEqual(library.write_draft(draft, 0), (number, b""), (name, word))
 
+    def test_refusals_of_paths(self):
+        for paths, circulations, number in (
+            (0, 1, 28), (1, 0, 28), (3, 1, 28), (4, 0, 28), (5, 1, 5), (4, 2, 5), (4, 1, 0),
+        ):
+            draft = library.read_draft(LAKE).draft
+            draft.path_count, draft.circulation_count = paths, circulations
+            self.assertEqual(library.write_draft(draft), (number, b"" if number else LAKE), (paths, circulations))
+            self.assertEqual(library.write_draft(draft, 405), (number or 27, b""), (paths, circulations))
+        draft.path_count = draft.circulation_count = 0
+        self.assertEqual(library.write_draft(draft), (0, SHEET_S))
+        for array, word, value, number in (
+            ("paths", "flow", 200_001, 9), ("paths", "flow", -200_001, 9), ("paths", "factor", -10_001, 11),
+            ("circulations", "flow", -200_001, 9), ("circulations", "flow", 200_001, 9), ("factors", "target", 1, 10),
+        ):
+            draft = library.read_draft(LAKE).draft
+            setattr(getattr(draft, array)[0], word, value)
+            draft.circulation_count = 1 if array == "circulations" else 0
+            self.assertEqual(library.write_draft(draft, 0), (number, b""), (array, word))
+
     def test_records_too_many(self):
-        for word, most in (("zone", 32), ("unit", 256), ("point", 32), ("par", 8)):
+        for word, most in (("zone", 32), ("unit", 256), ("point", 32), ("par", 8), ("path", 4), ("circulation", 1)):
             draft = library.read_draft(to_bytes(LONGEST)).draft
             for count in (most + 1, most + 2, 1 << 62):
                 setattr(draft, word + "_count", count)
@@ -152,6 +171,30 @@ class Command(unittest.TestCase):
             self.assertEqual(fields(library.read_draft(content(new_data)).draft), fields(draft_of(to_bytes(text))))
             os.unlink(new_text)
             os.unlink(new_data)
+
+    def test_every_field_of_paths(self):
+        write(self.folder, lake_txt=LAKE_TEXT, lake_bin=LAKE)
+        text, data, new_text, new_data = self.inside("lake.txt", "lake.bin", "lake.new.txt", "lake.new.bin")
+        for change, old, new in EACH_PATH_FIELD:
+            altered = LAKE_TEXT.replace(old, new)
+            self.assert_set(new_text, text, change, content_is=altered.encode())
+            self.assert_set(new_data, data, change, content_is=to_bytes(altered))
+            os.unlink(new_text)
+            os.unlink(new_data)
+        for change, number, detail in (
+            ("flow of J5D 200001", 9, "flow 200001 is not in -200000..200000"), ("name of J5D B3N", 7, "name repeated"),
+            ("circulation -200001", 9, "circulation -200001 is not in"), ('name of J5D ""', 6, "it is empty"),
+            ("factor of J5D 10001", 11, "factor 10001 is not in -10000..10000"),
+        ):
+            status, told = called(text, change)
+            self.assertEqual((status, told.startswith(f"refused {number}: ")), (1, True), told)
+            self.assertIn(detail, " ".join(told.split()))
+
+    def test_a_sheet_without_its_circulation(self):
+        write(self.folder, sheet_txt=LAKE_TEXT + "drop 26\n")
+        status, told = called(self.text, "seconds 5")
+        where = "refused 28: paths or circulation missing\nwhere:    byte 401 of the sheet: the end\n"
+        self.assertEqual((status, told.startswith(where)), (1, True), told)
 
     def test_the_command_itself(self):
         outcome = run("set", self.text, "import of P1 600", 'name of T1 "Zürich"')

@@ -18,7 +18,8 @@ sys.path.insert(0, os.path.dirname(os.path.dirname(os.path.abspath(__file__))))
 from common import LONGEST, ROOT, SAMPLE, content, run, to_bytes, write  # noqa: E402
 from m2mlib.cases import case_files, case_of  # noqa: E402
 from m2mlib.faults import faults  # noqa: E402
-from m2mlib.library import FIGURES, Library  # noqa: E402
+from m2mlib.library import Library  # noqa: E402
+from m2mlib.outputs import listed  # noqa: E402
 from m2mlib.records import BY_NUMBER, LIST, SHEET, split  # noqa: E402
 from m2mlib.refusals import refusals  # noqa: E402
 
@@ -26,6 +27,7 @@ LISTING = content("samples/sheet-s/listing.txt")
 SHEET_S = content("crates/settle/data/sheet.bin")
 LIST_S = content("crates/settle/data/entitle.bin")
 TWICE = to_bytes("include samples/sheet-s/sheet.txt\nreplace 5 unit U1 zone 2 output 2000")
+LAKE = to_bytes(content("samples/lake/sheet.txt"))
 library = Library()
 
 
@@ -80,14 +82,18 @@ class Answers(unittest.TestCase):
             statement, listing = library.settle(sheet, entitlements)
             if statement.refusal == 0:
                 figures = [int(word) for line in listing.decode().splitlines()[1:] for word in line.split()[1:]]
-                self.assertEqual([getattr(statement, figure.name) for figure in FIGURES], figures, path)
+                self.assertEqual([getattr(statement, figure.name) for figure in listed(statement)], figures, path)
+                paths = library.read(sheet, len(sheet)).paths
+                self.assertEqual((statement.has_paths, b"\nsettled " in listing), (paths > 0, paths > 0), path)
+                if not paths:
+                    self.assertEqual(statement.settled, statement.market, path)
 
     def test_faults_are_told_exactly_where_the_reader_refuses(self):
         chance = random.Random(4)
         for path, sheet, _, _ in cases():
             self.assertEqual(bool(faults(sheet, SHEET)), library.place(sheet) is not None, path)
         for _ in range(3000):
-            sheet = damaged(SHEET_S, SHEET, chance)
+            sheet = damaged(chance.choice((SHEET_S, LAKE)), SHEET, chance)
             self.assertEqual(bool(faults(sheet, SHEET)), library.place(sheet) is not None, sheet.hex())
 
     def test_faults_of_a_list_are_told_exactly_where_row_14_is_met(self):
@@ -149,6 +155,36 @@ class Command(unittest.TestCase):
         folder = os.path.join(ROOT, "samples", "wheels")
         self.assertEqual(self.assert_settled(folder, output=content(folder, "listing.txt")).stderr, b"")
 
+    def test_the_sample_with_paths(self):
+        folder = os.path.join(ROOT, "samples", "lake")
+        self.assertEqual(self.assert_settled(folder, output=content(folder, "listing.txt")).stderr, b"")
+        self.assert_settled("--words", folder, output=content(folder, "words.txt"))
+
+    def test_words_of_the_settlement_flow(self):
+        for number, (flow, factor, words) in enumerate((
+            (0, 0, "the market flow"), (400, 250, "the market flow"), (-400, 1000, "the entitlement"),
+            (-400, 250, "the adjusted flow, market flow and impact"),
+        )):
+            text = f"include samples/sheet-s/sheet.txt\npath J flow {flow} factor {factor}\n"
+            text += "repeat i 1 3\npath J$i flow 0 factor 0\nend\ncirculation 0\n"
+            folder = self.inside(str(number), sheet_txt=text, entitle_bin=LIST_S)
+            lines = run("settle", "--words", folder).stdout.decode().splitlines()
+            self.assertTrue(lines[7].startswith("settled "), lines)
+            self.assertTrue(lines[7].endswith("settlement flow: " + words), lines)
+        text = "head F monitoring PJM seconds 300 prices 5000 2000\ninclude tests/parts/plain.txt\n"
+        text += "repeat i 1 4\npath J$i flow 1 factor 1\nend\ncirculation 0\n"
+        both = self.inside("both", sheet_txt=text, entitle_txt="entitlement F 0\n")
+        told = run("settle", "--words", both).stdout.decode()
+        self.assertIn("settlement flow: the market flow and the entitlement\n", told)
+        self.assertNotIn(b"settle", run("settle", "--words", SAMPLE).stdout)
+
+    def test_words_of_28(self):
+        folder = self.inside("a", sheet_txt=content("samples/lake/sheet.txt") + b"drop 26\n", entitle_bin=LIST_S)
+        told = run("settle", "--words", folder).stdout.decode()
+        where = "refused 28: paths or circulation missing\nwhere:    byte 401 of the sheet: the end\n"
+        self.assertTrue(told.startswith(where), told)
+        self.assertIn("tells every fault of it", " ".join(told.split()))
+
     def test_bytes_are_told_by_content(self):
         folder = self.inside("a", sheet=SHEET_S, list=LIST_S)
         self.assert_settled(os.path.join(folder, "sheet"), os.path.join(folder, "list"))
@@ -195,7 +231,7 @@ class Command(unittest.TestCase):
         for number, sheet, entitlements, _ in examples():
             self.inside(f"{number:02}", sheet_bin=sheet, entitle_bin=entitlements)
         told = run("settle", "--words", self.folder).stdout.decode()
-        for number in range(1, 23):
+        for number in (*range(1, 23), 28):
             self.assertIn(f"refused {number}: {refusals()[number].title}\n", told)
 
     def test_names_that_are_no_text(self):
@@ -212,9 +248,12 @@ class Command(unittest.TestCase):
     def test_rows(self):
         self.inside("1", sheet_bin=SHEET_S, entitle_bin=LIST_S)
         self.inside("2", sheet_bin=TWICE, entitle_bin=LIST_S)
+        self.inside("3", sheet_bin=LAKE, entitle_bin=LIST_S)
         outcome = run("settle", "--json", self.folder)
         rows = json.loads(outcome.stdout)
-        self.assertEqual((outcome.returncode, len(rows)), (1, 2))
+        self.assertEqual((outcome.returncode, len(rows)), (1, 3))
+        told = [(row["has_paths"], row["market_W"], row["settled_W"]) for row in rows]
+        self.assertEqual(told, [(0, 13187500, 13187500), (None, None, None), (1, 13187500, 12807500)])
         self.assertEqual(rows[0]["flowgate"], "A\\B")
         self.assertEqual((rows[0]["market_W"], rows[0]["NYISO_thousandths_of_a_cent"]), (13187500, -1328125))
         self.assertEqual((rows[1]["refusal"], rows[1]["place"], rows[1]["record"]), (7, 100, "unit 2, U1"))
