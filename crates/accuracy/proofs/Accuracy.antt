@@ -213,6 +213,7 @@ module _ (c : Content) (v : Valid c) (e : balanceRow c ≡ 0) where
     flow-exact = λ target l. flow-iff target;
     flow-near = λ target l. flow-close target;
     market-near = market-close;
+    adjusted-above = adjusted-close .above;
     settled-near = settled-close (inWatts entitlement);
     difference-above = difference-close entitlement .above;
     amount-near = amount-of-close (head c) (settlementBound c) (difference-close entitlement);

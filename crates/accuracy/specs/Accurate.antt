@@ -13,7 +13,7 @@ use Rattle.figures.specs.Flow.{generationToLoad, firstRemainder, secondRemainde
 use Rattle.figures.specs.Lake.{hasPaths, settlementFlow}
 use Rattle.figures.specs.Payment.{inWatts, amount}
 use Rattle.accuracy.specs.Fraction.{Fraction, entire, _⊕_, _⊘_, half, Equals, Near}
-use Rattle.accuracy.specs.Exact.{exactGenerationToLoad, exactMarketFlow, exactSettlementFlow, exactDifference, exactAmount}
+use Rattle.accuracy.specs.Exact.{exactGenerationToLoad, exactMarketFlow, exactAdjustedFlow, exactSettlementFlow, exactDifference, exactAmount}
 
 -- Bounds, in watts: 1 for a generation-to-load flow, p + 2 for the market flow, with p the sheet's PARs of both classes
 unfoldable pub flowBound : ℤ
@@ -40,6 +40,8 @@ pub record Accurate (c : Content) (entitlement : ℤ) : Type 0 where
       Equals (generationToLoad c target) (exactGenerationToLoad c target) ↔ netLoad c *ℤ secondRemainder c target ≡ finalGeneration c *ℤ firstRemainder c target
   pub flow-near : (target : ℕ) → target ≤ length (c .pars) → Near (generationToLoad c target) (exactGenerationToLoad c target) (entire flowBound)
   pub market-near : Near (marketFlow c) (exactMarketFlow c) (entire (marketBound c))
+  -- `atMost` compares by products, which is the order of two fractions only where both denominators are above zero; the market flow's is, by `market-near`
+  pub adjusted-above : pos 0 <ℤ exactAdjustedFlow c .denominator
   pub settled-near : Near (settlementFlow c (inWatts entitlement)) (exactSettlementFlow c (inWatts entitlement)) (entire (settlementBound c))
   -- `exactPrice` goes by the numerator's sign, which is the exact difference's own only where the denominator is above zero
   pub difference-above : pos 0 <ℤ exactDifference c entitlement .denominator

@@ -52,12 +52,9 @@ pub control-is : (c : Content) (class : ℕ) → weightedSum c parSubject class 
 unfolding weightedSum members howMany weightedTerm powerOf tenfoldIn control controlTerm parFactor
 control-is c class = sum-same _ _ (length (c .pars)) (λ i l. tenfold-times (eqb (par c i .class) class) (par c i .actual -ℤ par c i .target) (factor c 0 parSubject i))
 
+-- what a PAR brings is no larger than `tenfold_in` asks; a net schedule is not, by `net-within`
 pub over-within : {p : Par} → ParFits p → natAbs (p .actual -ℤ p .target) ≤ 400000
 over-within {p} f = omega (arith, abs-sub (p .actual) (p .target), f .actual, f .target)
-
--- what a point and a PAR bring is no larger than `tenfold_in` asks
-pub scheduled-within : {zones : ℕ} {p : Point} → PointFits zones p → natAbs (netSchedule p) ≤ 400000
-scheduled-within f = le-trans (net-within f) (lit≤ tt)
 
 tenfold-within : (of class : ℕ) (x : ℤ) → natAbs x ≤ 400000 → natAbs (tenfoldIn of class x) ≤ 4000000
 unfolding tenfoldIn
@@ -81,7 +78,7 @@ power-within {c} v subject class i o = by (eqb subject 1) (eqb subject 3)
     by : (p r : Bool) → i < cond p (length (c .units)) (cond (eqb subject 2) (length (c .zones)) (cond r (length (c .points)) (length (c .pars)))) →
         natAbs (cond p (output c i) (cond r (tenfoldIn (point c i .sort) class (netSchedule (point c i))) (tenfoldIn (par c i .class) class (par c i .actual -ℤ par c i .target)))) ≤ 4000000
     by true r l = le-trans (output-within v i l) (lit≤ tt)
-    by false true l = tenfold-within (point c i .sort) class (netSchedule (point c i)) (scheduled-within (v .point-fits i (rw (ne-eqb subject 2 o) at l)))
+    by false true l = tenfold-within (point c i .sort) class (netSchedule (point c i)) (net-within (v .point-fits i (rw (ne-eqb subject 2 o) at l)))
     by false false l = tenfold-within (par c i .class) class (par c i .actual -ℤ par c i .target) (over-within (v .par-fits i (rw (ne-eqb subject 2 o) at l)))
 
 -- what the layout of an accepted sheet counts is what its content has

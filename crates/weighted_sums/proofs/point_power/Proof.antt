@@ -11,7 +11,8 @@ use Rattle.sheet.specs.Sheet.{contentOf}
 use Rattle.sheet.proofs.Accepted.{valid, counts}
 use Rattle.figures.specs.Flow.{netSchedule}
 use Rattle.weighted_sums.specs.inner.Weighted.{powerOf}
-use Rattle.weighted_sums.proofs.Laws.{scheduled-within, small, tenfold-is}
+use Rattle.figures.proofs.Ranges.{net-within}
+use Rattle.weighted_sums.proofs.Laws.{small, tenfold-is}
 use Rattle.weighted_sums.proofs.point_power.Statement.{statement}
 use Rattle.weighted_sums.proofs.point_power.Tie as tie
 
@@ -19,7 +20,7 @@ abbrev power : Point → ℤ
 power p = netSchedule p
 
 within : (c : tie.Start) → natAbs (power (point (contentOf (now (c .args .s))) (c .args .i))) ≤ 400000
-within c = scheduled-within (valid _ _ (c .pre .0) .point-fits _ (rw (counts _ _ (c .pre .0) .points) at (c .pre .1)))
+within c = net-within (valid _ _ (c .pre .0) .point-fits _ (rw (counts _ _ (c .pre .0) .points) at (c .pre .1)))
 
 returned : (c : tie.After-net-schedule) → let a = c .before .before .before .args in c .net-schedule .result ≡ power (point (contentOf (now (a .s))) (a .i))
 returned c = c .net-schedule .ensures ∙ ap power (c .before .point-at .ensures)
