@@ -8,6 +8,8 @@ use borrow.Author.Tests.{le-leb, lt-leb}
 use Rattle.fields.specs.Fields.{byteAt}
 use Rattle.integers.proofs.Cases.{below-or}
 use Rattle.record_table.specs.Table.{bodyLength}
+use Rattle.record_table.specs.inner.Sizes.{size, mostSize}
+use Rattle.record_table.proofs.ByKind.{size-most}
 use Rattle.sheet.specs.inner.Answers.{Refuses}
 use Rattle.sheet.proofs.Refusal.{points}
 use Rattle.explanation.specs.Explanation.{shownBytes, partEnd}
@@ -45,6 +47,13 @@ module _ (s : List ℕ) (number at : ℕ) where
       below-or (length s) (at + shown)
       (λ b. let e = ends-short b in (omega arith, omega arith))
       (λ b. let e = ends-whole b in (omega arith, omega arith))
+
+  -- no part is longer than a record
+  pub part-short : partEnd s number at ≤ at + mostSize
+  part-short =
+      let m = size-most (byteAt s at) in
+      let n : shown ≤ mostSize = below-or 2 number (λ h. omega (arith, whole-record h)) (λ h. omega (arith, kind-byte h)) in
+      below-or (length s) (at + shown) (λ b. omega (arith, ends-short b)) (λ b. omega (arith, ends-whole b))
 
   part-some : at < length s → at < partEnd s number at
   part-some h =

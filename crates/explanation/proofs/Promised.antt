@@ -1,5 +1,5 @@
 -- The definition keeps the promise.
-use Prim.Native.Nat.{ℕ, _≤_, _<_}
+use Prim.Native.Nat.{ℕ, _+_, _≤_, _<_}
 use mathlib.Core.Path.{_≡_, refl, sym, ap, _∙_}
 use mathlib.Core.Bool.{Bool, true, false, cond}
 use mathlib.Core.List.{List}
@@ -9,7 +9,7 @@ use lib.Dec.{eqb}
 use lib.IntN.{ℤ, _-ℤ_}
 use lib.ListN.{length}
 use borrow.Author.Tests.{eq-eqb, ne-eqb, lt-ltb}
-use Rattle.layout.specs.Layout.{layoutOf}
+use Rattle.record_table.specs.inner.Sizes.{mostSize}
 use Rattle.records.specs.Content.{Content, noContent, head}
 use Rattle.record_rows.specs.Rows.{firstRow}
 use Rattle.sheet.specs.declared.Outcome.{Outcome}
@@ -31,7 +31,7 @@ use Rattle.explanation.specs.declared.Finding.{Finding}
 use Rattle.explanation.specs.declared.Reason.the-variants.{None}
 use Rattle.explanation.specs.Explanation.{sideOf, partEnd, behindRecords, byReading, explained}
 use Rattle.explanation.specs.Promise.{Before, Meets, MeetsFirst, Part, priceFor, Reasoned, Promise}
-use Rattle.explanation.proofs.Parts.{part-within, first-part, record-part, behind-part}
+use Rattle.explanation.proofs.Parts.{part-within, part-short, first-part, record-part, behind-part}
 use Rattle.explanation.proofs.Reasons.{side-prices}
 use Rattle.explanation.proofs.Numbers.{sheet-not-23, settled-behind}
 
@@ -47,6 +47,15 @@ explained-is sheet list = go (reading sheet)
     go : (r : Reading) → byReading sheet list r ≡ byOutcome sheet list (contentIn r) (outcome r)
     go (holds c) = refl
     go (fails number at) = refl
+
+-- the part is no longer than a record
+pub explained-short : (sheet list : List ℕ) → explained sheet list .to ≤ explained sheet list .from + mostSize
+unfolding explained byReading behindRecords
+explained-short sheet list = go (reading sheet)
+  where
+    go : (r : Reading) → byReading sheet list r .to ≤ byReading sheet list r .from + mostSize
+    go (holds c) = omega arith
+    go (fails number at) = part-short sheet number at
 
 module _ (sheet list : List ℕ) where
   -- what holds of a refusal of the sheet's own

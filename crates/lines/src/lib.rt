@@ -1,8 +1,10 @@
 // The lines of the printed statement, written from the last to the first as the writers ask.
 use writers::put_bytes;
+use writers::put_count;
 use writers::put_decimal;
 use writers::put_name;
 ghost use Prim.Native.Nat.{_+_, _*_, _≤_};
+ghost use lib.IntN.{pos};
 ghost use lib.ListN.{length};
 ghost use Rattle.writers.specs.inner.Prepended.{Prepended};
 ghost use Rattle.printout.specs.Lines.{figure, line, flowgateLine, gtlLine};
@@ -30,6 +32,17 @@ pub fn put_line(label: &[u8], z: i64, out: &mut [u8], at: usize) -> usize
 {
     let end = put_bytes(b"\n", out, at);
     put_figure(label, z, out, end)
+}
+
+// A label and a count on a line of their own.
+pub fn put_count_line(label: &[u8], n: usize, out: &mut [u8], at: usize) -> usize
+    requires { ⌜ (length (now label) ≤ labelRoom) × ((lineRoom ≤ at) × (at ≤ length (now out))) ⌝ }
+    ensures { λ r. ⌜ Prepended (line (now (label .entry)) (pos n)) (now (out .entry)) at (now (out .exit)) r ⌝ }
+    ensures { λ r. ⌜ at ≤ r + lineRoom ⌝ }
+{
+    let end = put_bytes(b"\n", out, at);
+    let digits = put_count(n, out, end);
+    put_bytes(label, out, digits)
 }
 
 pub fn put_flowgate(name: &[u8; 16], out: &mut [u8], at: usize) -> usize

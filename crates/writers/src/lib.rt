@@ -3,6 +3,7 @@
 ghost use mathlib.Core.Path.{_≡_};
 ghost use Prim.Native.Nat.{_+_, _*_, _≤_, _<_};
 ghost use mathlib.Core.List.{[], _∷_};
+ghost use lib.IntN.{pos};
 ghost use lib.ListN.{length};
 ghost use Rattle.io.specs.Counts.{Counts};
 ghost use Rattle.writers.specs.Text.{digit as Text·digit, natural, decimal, pair, unfilled, hexadecimal};
@@ -68,8 +69,17 @@ pub fn put_decimal(z: i64, out: &mut [u8], at: usize) -> usize
     from
 }
 
+// n in decimal.
+pub fn put_count(n: usize, out: &mut [u8], at: usize) -> usize
+    requires { ⌜ (20 ≤ at) × (at ≤ length (now out)) ⌝ }
+    ensures { λ r. ⌜ Prepended (decimal (pos n)) (now (out .entry)) at (now (out .exit)) r ⌝ }
+    ensures { λ r. ⌜ at ≤ r + 20 ⌝ }
+{
+    put_natural(n as u64, out, at)
+}
+
 // How many bytes of a name stand before its filling.
-fn used(name: &[u8]) -> usize
+pub fn used(name: &[u8]) -> usize
     ensures { λ r. ⌜ r ≡ length (unfilled (now (name .entry))) ⌝ }
     ensures { λ r. ⌜ Counts r (now (name .entry)) ⌝ }
 {
@@ -91,7 +101,7 @@ fn put_byte(b: u8, out: &mut [u8], at: usize) -> usize
 }
 
 // The hexadecimal digits of all bytes.
-fn put_hexadecimal(bytes: &[u8], out: &mut [u8], at: usize) -> usize
+pub fn put_hexadecimal(bytes: &[u8], out: &mut [u8], at: usize) -> usize
     requires { ⌜ (2 * length (now bytes) ≤ at) × (at ≤ length (now out)) ⌝ }
     ensures { λ r. ⌜ Prepended (hexadecimal (now (bytes .entry))) (now (out .entry)) at (now (out .exit)) r ⌝ }
 {

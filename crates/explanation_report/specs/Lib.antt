@@ -1,0 +1,2 @@
+pub mod ExplanationReport
+pub mod inner
