@@ -162,5 +162,6 @@ def python():
         "m2m_hour_totals": library.Totals,
         "m2m_read_draft": library.Drafted,
         "m2m_write_draft": library.Written,
+        "m2m_explain": library.Explanation,
     }
     return {function: (list(fields(kind)), ctypes.sizeof(kind)) for function, kind in answers.items()}
