@@ -46,7 +46,7 @@ def record_words(piece, number, kinds):
     if piece[0] not in kinds:
         return f"a byte 0x{piece[0]:02x} where a record should begin"
     kind = BY_NUMBER[piece[0]]
-    words = kind.word if kind.most == 1 else f"{kind.word} {number}"
+    words = kind.word if kind.most == number == 1 else f"{kind.word} {number}"
     if not whole_kind(piece):
         return f"{words}, of which {len(piece)} of {kind.length} bytes are there"
     return f"{words}, {name_text(piece[1:17])}" if kind.named else words
