@@ -47,9 +47,9 @@ def record_words(piece, number, kinds):
         return f"a byte 0x{piece[0]:02x} where a record should begin"
     kind = BY_NUMBER[piece[0]]
     words = kind.word if kind.most == number == 1 else f"{kind.word} {number}"
-    if not whole_kind(piece):
-        return f"{words}, of which {len(piece)} of {kind.length} bytes are there"
-    return f"{words}, {name_text(piece[1:17])}" if kind.named else words
+    name = f", {name_text(piece[1:17])}" if kind.named and len(piece) >= 17 else ""
+    left = "" if whole_kind(piece) else f", of which {len(piece)} of {kind.length} bytes are there"
+    return words + name + left
 
 
 def line_at(text, place):

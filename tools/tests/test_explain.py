@@ -56,9 +56,9 @@ class Refused(unittest.TestCase):
         self.assertEqual(lines[2:4], ["bytes:    02", "line:     s.txt line 1: zone Z load 1 losses 0"])
 
     def test_what_is_left_of_a_record(self):
-        for length, left in ((74, "035500"), (54, "03")):
+        for length, name, left in ((74, " U,", "035500"), (70, " U,", "035500"), (69, "", "035500"), (54, "", "03")):
             lines = told(3, 53, length, sheet_of(TEXT + f"cut {110 - length}\n"))
-            words = f"Unit 1, of which {length - 53} of 22 bytes are there, is refused by row 3: body cut short."
+            words = f"Unit 1,{name} of which {length - 53} of 22 bytes are there, is refused by row 3: body cut short."
             self.assertEqual(lines[0], words)
             self.assertTrue(lines[2].startswith(f"bytes:    {left}"), lines)
             self.assertTrue(lines[3].startswith("line:     s.txt line 3: unit U"), lines)
