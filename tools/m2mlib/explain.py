@@ -2,14 +2,14 @@
 
 from types import SimpleNamespace
 
-from .forms import show_record
+from .forms import show_record, write_record
 from .inputs import intervals
 from .library import FIGURES, REASONS, Library, flow
-from .lines import split_words
 from .outputs import Listing, as_lines, figure_line, wrapped
-from .records import whole_kind
+from .records import BY_WORD, whole_kind
 from .refusals import words_of
 from .settle import each, settle_one
+from .trouble import Fault
 from .words import everyday, help_words, line_at, line_words, record_at
 
 BY_NAME = {figure.name: figure for figure in FIGURES}
@@ -50,22 +50,25 @@ def sentence(result):
 
 
 def part_words(result):
-    """The part that is refused: where it stands, its bytes, and what they read where that is no line of the text."""
+    """The part that is refused: where it stands, its bytes, and what they read where no line of the text says it."""
     part, sheet = result.explanation, result.sheet
     data = sheet.data[part.from_ : part.to]
     if not data:
         return [] if result.place is None else [("where", f"byte {part.from_}, the sheet's end")]
     count = f"{len(data)} byte{'s' if len(data) > 1 else ''} of the sheet"
     lines = [("where", f"{count}, from byte {part.from_} to before byte {part.to}"), ("bytes", data.hex())]
-    if whole_kind(data) and not is_line(show_record(data), sheet.text, part.from_):
+    if whole_kind(data) and not is_line(data, sheet.text, part.from_):
         lines.append(("reads", show_record(data)))
     return lines
 
 
-def is_line(words, text, place):
-    """Whether the line of the text that stands for the record at this place has just these words."""
+def is_line(record, text, place):
+    """Whether the line of the text that the byte at this place comes from has the words of this record."""
     line = line_at(text, place) if text else None
-    return line is not None and line.words == split_words(words)
+    try:
+        return line is not None and line.words[0].lower() in BY_WORD and write_record(line.words, text.zones) == record
+    except Fault:
+        return False
 
 
 def accepted(result):
@@ -74,8 +77,7 @@ def accepted(result):
     paid, price = BY_NAME["settled" if statement.has_paths else "market"], BY_NAME["price"]
     difference = SimpleNamespace(difference=statement.settled - statement.entitlement)
     taken = f"{PRICES[reason]} is taken" + (f", {everyday(statement.price, price)}" if reason != "at" else "")
-    why = f"The flow paid on, the {paid.meaning}, is {reason} the entitlement, so {taken}."
-    yield from wrapped([("", why)])
+    yield f"The flow paid on, the {paid.meaning}, is {reason} the entitlement, so {taken}."
     yield figure_line(paid, statement)
     yield figure_line(BY_NAME["entitlement"], statement)
     yield figure_line(DIFFERENCE, difference)

@@ -49,7 +49,9 @@ class Refused(unittest.TestCase):
         lines = told(2, 53, 54, sheet_of(HEAD + "zone Z load 1 losses 0\nraw 09 01\n"))
         self.assertEqual(lines[:4], [
             "A byte 0x09 where a record should begin is refused by row 2: unknown kind.",
-            "where:    1 byte of the sheet, from byte 53 to before byte 54", "bytes:    09", "line:     s.txt line 3: raw 09 01",
+            "where:    1 byte of the sheet, from byte 53 to before byte 54",
+            "bytes:    09",
+            "line:     s.txt line 3: raw 09 01",
         ])
         lines = told(1, 0, 1, sheet_of("zone Z load 1 losses 0\n"))
         self.assertEqual(lines[0], "Zone 1, Z, is refused by row 1: empty, or not a sheet.")
@@ -62,6 +64,16 @@ class Refused(unittest.TestCase):
             self.assertEqual(lines[0], words)
             self.assertTrue(lines[2].startswith(f"bytes:    {left}"), lines)
             self.assertTrue(lines[3].startswith("line:     s.txt line 3: unit U"), lines)
+
+    def test_what_the_bytes_read_is_told_where_the_line_does_not_say_it(self):
+        for line, is_told in (
+            ('zone "Z\xe4" load 0x1_0 LOSSES 0', False), (r'zone "Z\xe4" load 16 losses 0', False),
+            (f"raw {to_bytes(HEAD + 'zone Z load 1 losses 0')[28:].hex()}", True),
+            ("zone Z load $(8 + 8) losses 0", True), ("zone Z load 1 losses 0\npatch 48 02", True),
+            ("zone Y load 1 losses 0\nreplace 2 zone Z load 1 losses 0", True),
+        ):
+            lines = told(9, 28, 53, sheet_of((HEAD + line).encode("latin-1")))
+            self.assertEqual(any(line.startswith("reads:") for line in lines), is_told, lines)
 
     def test_a_record_in_the_middle_of_a_line(self):
         data = to_bytes(TEXT)
@@ -122,16 +134,16 @@ class Accepted(unittest.TestCase):
     def test_above(self):
         lines = self.told(1, market=13187500, entitlement=10000000, price=5000)
         said = "The flow paid on, the market flow, is above the entitlement, so the Monitoring price is taken,"
-        self.assertEqual(" ".join(lines[:2]), said + " 50.00 $/MWh.")
-        self.assertEqual([line.split()[0] for line in lines[2:]], ["market", "entitlement", "difference", "price"])
-        self.assertEqual(lines[4].split(maxsplit=5)[1:5], ["3.187500", "MW", "3187500", "W"])
-        self.assertTrue(lines[5].endswith("price taken: the Monitoring price"), lines)
+        self.assertEqual(lines[0], said + " 50.00 $/MWh.")
+        self.assertEqual([line.split()[0] for line in lines[1:]], ["market", "entitlement", "difference", "price"])
+        self.assertEqual(lines[3].split(maxsplit=5)[1:5], ["3.187500", "MW", "3187500", "W"])
+        self.assertTrue(lines[4].endswith("price taken: the Monitoring price"), lines)
 
     def test_below_at_a_price_of_zero(self):
         lines = self.told(2, market=-1, entitlement=0, price=0)
         said = "The flow paid on, the market flow, is below the entitlement, so the Non-Monitoring price is taken,"
-        self.assertEqual(" ".join(lines[:2]), said + " 0.00 $/MWh.")
-        self.assertIn("-0.000001 MW   -1 W", lines[4])
+        self.assertEqual(lines[0], said + " 0.00 $/MWh.")
+        self.assertIn("-0.000001 MW   -1 W", lines[3])
 
     def test_at(self):
         lines = self.told(3, market=5, entitlement=5)
@@ -145,13 +157,14 @@ class Accepted(unittest.TestCase):
         ):
             lines = self.told(1, has_paths=1, market=13187500, settled=settled, entitlement=10000000, price=5000)
             self.assertTrue(lines[0].startswith("The flow paid on, the settlement flow, is above the entitlement"))
-            self.assertTrue(lines[2].startswith("settled ") and lines[2].endswith("settlement flow: " + words), lines)
-            self.assertIn(f" {settled - 10000000} W ", lines[4])
+            self.assertTrue(lines[1].startswith("settled ") and lines[1].endswith("settlement flow: " + words), lines)
+            self.assertIn(f" {settled - 10000000} W ", lines[3])
 
 
 class Samples(unittest.TestCase):
     def test_formats_example_is_the_sample(self):
-        self.assertIn(f"```text\n{content('samples/refused/explained.txt').decode()}```", content("docs/FORMAT.md").decode())
+        sample = content("samples/refused/explained.txt").decode()
+        self.assertIn(f"```text\n{sample}```", content("docs/FORMAT.md").decode())
 
     def test_the_sample_is_sheet_s_but_for_the_zone(self):
         sheet, sound = (to_bytes(content("samples", name, "sheet.txt")) for name in ("refused", "sheet-s"))

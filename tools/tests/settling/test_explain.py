@@ -1,4 +1,4 @@
-"""tools/m2m explain and the program explain, on the proved library: python3 -m unittest discover tools/tests/settling"""
+"""tools/m2m explain and the program explain, on the library: python3 -m unittest discover tools/tests/settling"""
 
 import io
 import os
@@ -42,7 +42,10 @@ RECORDS = {
     10: [("Factor 1", "factor 0 zone 1 0")],
     11: [("Factor 1", "factor 0 unit 1 10001")],
 }
-OTHERS = {12: "sheet's end", 13: "sheet's end", 28: "sheet's end", 14: "entitlement list", 15: "entitlement list", 22: "flow"}
+OTHERS = {
+    **dict.fromkeys((12, 13, 28), "sheet's end"), **dict.fromkeys((14, 15), "entitlement list"),
+    **dict.fromkeys(range(16, 22), "balance"), 22: "flow",
+}
 library = Library()
 
 
@@ -164,17 +167,18 @@ class Command(unittest.TestCase):
 
     def test_the_examples_of_refusals(self):
         for number in (*range(1, 23), 28):
-            expected = RECORDS.get(number) or [(f"The {OTHERS.get(number, 'balance')}", None)] * 2
+            expected = RECORDS.get(number) or [(f"The {OTHERS[number]}", None)] * len(refusals()[number].examples)
+            self.assertEqual(len(refusals()[number].examples), len(expected), number)
             for example, (subject, words) in zip(refusals()[number].examples, expected):
                 sheet, entitlements = example.split("\nsheet\n")[1].split("\nexpect ")[0].split("\nentitlements\n")
                 lines = self.told(sheet, entitlements)
                 said = f"{subject} is refused by row {number}: {refusals()[number].title}."
                 self.assertTrue(" ".join(lines[:2]).startswith(said), lines)
-                where = [line for line in lines if line.startswith("line:")]
                 texts = [line.strip() for line in sheet.splitlines()]
-                self.assertEqual(where, [
-                    f"line:     sheet.txt line {k}: {words}" for k, text in enumerate(texts, 1) if text == words
-                ][-1:], number)
+                number_of = {text: k for k, text in enumerate(texts, 1)}
+                where = f"line: sheet.txt line {number_of[words]}: {words} meaning:" if words else "blame. "
+                self.assertIn(where, " ".join(" ".join(lines).split()))
+                self.assertEqual(any(line.startswith("line:") for line in lines), words is not None, number)
 
     def test_bytes_without_a_text(self):
         lines = self.told(TWICE, LIST_S)
@@ -188,7 +192,8 @@ class Command(unittest.TestCase):
 
     def test_names(self):
         for name, words in (
-            ('"Zürich"', "Zürich"), (r'"\xff\x01"', r'"\xff\x01"'), (r'"A\"B"', 'A"B'), (r'"A\\B"', "A\\B"), ('" "', '" "'),
+            ('"Zürich"', "Zürich"), (r'"\xff\x01"', r'"\xff\x01"'), (r'"A\"B"', 'A"B'), (r'"A\\B"', "A\\B"),
+            ('" "', '" "'),
         ):
             text = HEAD + f"zone {name} load 1 losses 0\n" * 2
             lines = self.told(text)
@@ -201,7 +206,9 @@ class Command(unittest.TestCase):
         text = HEAD + "zone Z load 9 losses 0\nrepeat i 1 3\n  unit U$i zone $i output 1\nend\ndue 0\n"
         lines = self.told(text)
         self.assertEqual(lines[0], "Unit 2, U2, is refused by row 8: code not listed.")
-        self.assertEqual(lines[3:5], ["reads:    unit U2 zone 2 output 1", "line:     sheet.txt line 4: unit U$i zone $i output 1"])
+        self.assertEqual(lines[3:5], [
+            "reads:    unit U2 zone 2 output 1", "line:     sheet.txt line 4: unit U$i zone $i output 1",
+        ])
 
     def test_a_record_of_an_include(self):
         parts = self.inside("parts", units_txt="# two\nunit U zone 1 output 1\nunit V zone 2 output 1\n")
@@ -231,14 +238,16 @@ class Command(unittest.TestCase):
             text = f"include samples/sheet-s/sheet.txt\npath J flow {flow} factor {factor}\n" + paths
             lines = self.told(text, LIST_S, 0)
             where = "at" if which == "the entitlement" else "above"
-            self.assertTrue(lines[0].startswith(f"The flow paid on, the settlement flow, is {where} the entitlement"), lines)
+            said = f"The flow paid on, the settlement flow, is {where} the entitlement"
+            self.assertTrue(lines[0].startswith(said), lines)
             told = [line for line in lines if line.startswith("settled ")]
             self.assertTrue(told[0].endswith("settlement flow: " + which), lines)
 
     def test_no_list(self):
         folder = self.inside("a", sheet_bin=SHEET_S)
         status, output, told = called(folder)
-        self.assertEqual((status, told), (1, f"m2m: {folder}: no entitle.txt or entitle.bin in it; the list counts as empty\n"))
+        said = f"m2m: {folder}: no entitle.txt or entitle.bin in it; the list counts as empty\n"
+        self.assertEqual((status, told), (1, said))
         self.assertTrue(output.startswith("The entitlement list is refused by row 15: no entitlement."), output)
 
     def test_several(self):
