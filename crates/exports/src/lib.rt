@@ -10,9 +10,11 @@ ghost use Rattle.grown_hours.specs.Promise.{Promise as Hour·Promise};
 ghost use Rattle.drafts.specs.Draft.{given};
 ghost use Rattle.draft_reader.specs.DraftReader.{draftedFrom};
 ghost use Rattle.sheet_writer.specs.Promise.{Promise as Sheet·Promise};
-ghost use Rattle.exports.specs.Answers.{readAnswer, entitlementAnswer};
+ghost use Rattle.explanation.specs.Explanation.{explained};
+ghost use Rattle.exports.specs.Answers.{readAnswer, entitlementAnswer, reasonCode, explanationAnswer};
 use draft_reader::Drafted;
 use drafts::Draft;
+use explanation::Reason;
 use hours::Changed;
 use hours::Hour;
 use hours::Totals;
@@ -39,6 +41,15 @@ pub struct ReadAnswer {
 pub struct EntitlementAnswer {
     pub refusal: u8,
     pub value: i64,
+}
+
+// What an explanation says: the refusal's number or 0, the reason's code, and where the part begins and ends.
+#[repr(C)]
+pub struct ExplanationAnswer {
+    pub refusal: u8,
+    pub reason: u8,
+    pub from: usize,
+    pub to: usize,
 }
 
 #[no_mangle]
@@ -132,4 +143,29 @@ pub extern "C" fn m2m_write_draft(draft: Draft, out: &mut [u8]) -> Written
     ensures { λ r. ⌜ Sheet·Promise (given draft) (now (out .entry)) (now (out .exit)) r ⌝ }
 {
     sheet_writer::write_draft(draft, out)
+}
+
+fn reason_code(reason: Reason) -> u8
+    ensures { λ r. ⌜ r ≡ reasonCode reason ⌝ }
+{
+    match reason {
+        Reason::None => 0,
+        Reason::Above => 1,
+        Reason::Below => 2,
+        Reason::At => 3,
+    }
+}
+
+#[no_mangle]
+pub extern "C" fn m2m_explain(sheet: &[u8], list: &[u8]) -> ExplanationAnswer
+    ensures { λ r. ⌜ r ≡ explanationAnswer (explained (now (sheet .entry)) (now (list .entry))) ⌝ }
+{
+    let f = explanation::locate(sheet, list);
+    let reason = f.reason;
+    ExplanationAnswer {
+        refusal: f.refusal,
+        reason: reason_code(reason),
+        from: f.from,
+        to: f.to,
+    }
 }

@@ -22,6 +22,11 @@ pub row-pass : (n : ℕ) (met : Bool) (below : ℕ) → row (suc n) met below �
 row-pass n true below e = absurd (suc-ne-zero n e)
 row-pass n false below e = (refl, e)
 
+-- what holds of a row's number and of what the rows below it say holds of the first that fits
+pub row-either : (P : ℕ → Type 0) (n : ℕ) (met : Bool) (below : ℕ) → P n → P below → P (row n met below)
+row-either P n true below p q = p
+row-either P n false below p q = q
+
 -- within low..high
 pub within : (low n high : ℕ) → outside low n high ≡ false → (low ≤ n) × (n ≤ high)
 within low n high e =

@@ -110,8 +110,8 @@ fn settle_balance(s: &[u8], l: layout::Layout, e: i64) -> Interval
     settle_flow(s, l, b, &zone_loads, e)
 }
 
-// The entitlement list, then the balance.
-fn settle_sheet(sheet: &[u8], l: layout::Layout, list: &[u8]) -> Interval
+// An accepted sheet: the entitlement list, then the balance.
+pub fn settle_sheet(sheet: &[u8], l: layout::Layout, list: &[u8]) -> Interval
     requires { ⌜ readSheet (now sheet) ≡ Accepted l ⌝ }
     ensures { λ r. ⌜ r ≡ afterSheet (contentOf (now (sheet .entry))) (inputs (now (sheet .entry)) (now (list .entry))) ⌝ }
 {

@@ -28,7 +28,7 @@ use Rattle.layout.specs.inner.Places.{countsIn, extent, Allowed, bodyAt, conten
 use Rattle.layout.specs.Layout.{layoutOf}
 use Rattle.sheet.specs.declared.Outcome.the-variants.{Accepted}
 use Rattle.sheet.specs.Sheet.{readSheet, contentOf}
-use Rattle.sheet.specs.inner.Passed.{Passed, none, more}
+use Rattle.sheet.specs.Passed.{Passed, none, more}
 use Rattle.sheet.proofs.Passing.{passed-laid, passed-placed, passed-allowed}
 use Rattle.sheet.proofs.Answers.{kept}
 use Rattle.sheet.proofs.RecordsFine.{passed-head, passed-zone, passed-unit, passed-point, passed-par, passed-factor, passed-path, passed-circulation}

@@ -18,7 +18,8 @@ use Rattle.layout.specs.declared.Layout.{Layout}
 use Rattle.layout.specs.Layout.{layoutOf}
 use Rattle.sheet.specs.declared.Outcome.the-variants.{Accepted, Refused}
 use Rattle.sheet.specs.Sheet.{Reading, holds, fails, unless, recordsFrom, reading, outcome, readSheet, numberIn, contentIn, contentOf}
-use Rattle.sheet.specs.inner.Passed.{Passed, none, more, rowAt, Accepts, Refuses}
+use Rattle.sheet.specs.Passed.{Passed, none, more}
+use Rattle.sheet.specs.inner.Answers.{rowAt, Accepts, Refuses}
 use Rattle.sheet.proofs.Passing.{passed-within}
 
 abbrev Answers : List ℕ → Reading → Type 0

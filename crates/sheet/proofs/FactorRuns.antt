@@ -21,7 +21,7 @@ use Rattle.layout.specs.declared.Layout.{Layout}
 use Rattle.layout.specs.inner.Places.{countsIn, counted, firstOf, contentAt, dueOf}
 use Rattle.layout.specs.inner.Listed.{Listed}
 use Rattle.layout.proofs.Contents.{count-at, counts-at}
-use Rattle.sheet.specs.inner.Passed.{Passed, more}
+use Rattle.sheet.specs.Passed.{Passed, more}
 use Rattle.sheet.specs.inner.GoodFactors.{keyOf, Good, withFactors}
 use Rattle.sheet.proofs.Passing.{at-next}
 

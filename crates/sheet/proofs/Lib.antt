@@ -5,6 +5,7 @@ pub mod RecordsFine
 pub mod Factors
 pub mod Accepted
 pub mod AcceptedNames
+pub mod Numbers
 pub mod Refusal
 pub mod FactorRuns
 pub mod Long

@@ -21,7 +21,8 @@ use Rattle.layout.proofs.Places.{extent-is}
 use Rattle.sheet.specs.declared.Outcome.the-variants.{Accepted}
 use Rattle.sheet.specs.Sheet.{Reading, holds, fails, recordsFrom, reading, readSheet, contentOf}
 use Rattle.sheet.specs.inner.Longest.{longestSheet, deciding}
-use Rattle.sheet.specs.inner.Passed.{Passed, none, more, rowAt, Accepts, Refuses}
+use Rattle.sheet.specs.Passed.{Passed, none, more}
+use Rattle.sheet.specs.inner.Answers.{rowAt, Accepts, Refuses}
 use Rattle.sheet.proofs.Passing.{passed-laid, passed-allowed}
 use Rattle.sheet.proofs.RecordsFine.{passed-factor}
 use Rattle.sheet.proofs.RecordByRecord.{from-next, from-refused}

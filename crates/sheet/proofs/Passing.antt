@@ -21,7 +21,7 @@ use Rattle.layout.specs.inner.Listed.{Listed}
 use Rattle.layout.proofs.Listed.{listed-at, listed-kept}
 use Rattle.layout.proofs.Laid.{Laid, laid-none, laid-next}
 use Rattle.layout.proofs.Contents.{none-at, layout-at, count-at, counts-at, content-next}
-use Rattle.sheet.specs.inner.Passed.{Passed, none, more}
+use Rattle.sheet.specs.Passed.{Passed, none, more}
 
 one-more : {A : Type 0} (l : List A) (b : Bool) (a : A) → length (l ++ onlyIf b a) ≡ length l + one b
 one-more l true a = length-append l (a ∷ [])

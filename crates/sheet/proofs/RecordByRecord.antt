@@ -14,7 +14,7 @@ use Rattle.record_rows.specs.Rows.{recordRow, lastRow, firstRow}
 use Rattle.record_rows.proofs.FrontRows.{Fronted, front-pass}
 use Rattle.sheet.specs.declared.Outcome.the-variants.{Refused}
 use Rattle.sheet.specs.Sheet.{holds, fails, unless, recordsFrom, reading, readSheet}
-use Rattle.sheet.specs.inner.Passed.{Passed, none, more}
+use Rattle.sheet.specs.Passed.{Passed, none, more}
 
 pub from-skip : (at skip last : ℕ) (c : Content) (r : List ℕ) → skip ≤ length r → recordsFrom at skip last c r ≡ recordsFrom (at + skip) 0 last c (drop skip r)
 unfolding recordsFrom

@@ -29,7 +29,7 @@ use Rattle.layout.specs.declared.Layout.{Layout}
 use Rattle.layout.specs.inner.Places.{count, dueOf}
 use Rattle.layout.specs.Layout.{layoutOf}
 use Rattle.layout.proofs.Places.{count-other}
-use Rattle.sheet.specs.inner.Passed.{Passed, none, more}
+use Rattle.sheet.specs.Passed.{Passed, none, more}
 use Rattle.sheet.proofs.Passing.{layout-with, fronted, body-passes, passed-laid}
 
 -- A kind with its list, and what its rows leave of a record behind others: it depends on the counts of the kinds below, which are final

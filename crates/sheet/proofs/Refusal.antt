@@ -1,6 +1,6 @@
 -- Where a refusal points: the records before that place pass their rows, and the record there, or the sheet's end, meets the refusal's row.
 use Prim.Native.Nat.{ℕ, _+_, _-_, _≤_, _<_}
-use mathlib.Core.Path.{_≡_, refl, sym}
+use mathlib.Core.Path.{_≡_, refl, sym, _∙_}
 use mathlib.Core.Bool.{Bool, true, false}
 use mathlib.Core.List.{List}
 use mathlib.Core.Logic.{_⊎_, inl, inr, ⊎-elim}
@@ -16,8 +16,9 @@ use Rattle.due_factors.specs.Due.{countsOf}
 use Rattle.record_rows.specs.Rows.{unknownKind, frontRow, noZoneOrUnit, stillDue, lakeInPart, recordRow, lastRow, endRow, firstRow}
 use Rattle.sheet.specs.declared.Outcome.the-variants.{Refused}
 use Rattle.sheet.specs.Sheet.{Reading, holds, fails, reading, outcome, readSheet}
-use Rattle.sheet.specs.inner.Passed.{rowAt, Refuses}
+use Rattle.sheet.specs.inner.Answers.{rowAt, Refuses}
 use Rattle.sheet.proofs.Passing.{passed-within}
+use Rattle.sheet.proofs.Numbers.{record-most, record-cut}
 use Rattle.sheet.proofs.Answers.{first-number, refused-first, reading-answers}
 
 by-reading : (s : List ℕ) (number at : ℕ) (r : Reading) → reading s ≡ r → outcome r ≡ Refused number at → firstRow s ≡ 0 → Refuses s number at
@@ -27,27 +28,29 @@ by-reading s number at (fails n p) e o f =
     let p-is : p ≡ at = cc in
     rw (n-is, p-is) at (rw e at (reading-answers s f))
 
--- row 1, or a row that a record or the sheet's end meets
-refusal : (s : List ℕ) (number at : ℕ) → readSheet s ≡ Refused number at → (number ≡ 1) ⊎ Refuses s number at
+-- row 1 at the sheet's beginning, or a row that a record or the sheet's end meets
+pub refusal : (s : List ℕ) (number at : ℕ) → readSheet s ≡ Refused number at → ((firstRow s ≡ 1) × (number ≡ 1) × (at ≡ 0)) ⊎ Refuses s number at
 unfolding readSheet
 refusal s number at e =
     ⊎-elim
     (λ (f : firstRow s ≡ 0). inr (by-reading s number at (reading s) refl e f))
-    (λ (f : firstRow s ≡ 1). let q = refused-first s f in inl (cc))
+    (λ (f : firstRow s ≡ 1). let q = refused-first s f in inl (f, cc, cc))
     (first-number s)
 
 pub refuses : (s : List ℕ) (number at : ℕ) → readSheet s ≡ Refused number at → 2 ≤ number → Refuses s number at
-refuses s number at e g = ⊎-elim (λ (q : number ≡ 1). absurd (omega arith)) (λ (r : Refuses s number at). r) (refusal s number at e)
+refuses s number at e g = ⊎-elim (λ q. absurd (omega (arith, q .1))) (λ (r : Refuses s number at). r) (refusal s number at e)
 
 -- a refusal has a row's number
 pub refused-some : (s : List ℕ) (number at : ℕ) → readSheet s ≡ Refused number at → number ≡ 0 → ⊥
-refused-some s number at e z = ⊎-elim (λ (q : number ≡ 1). omega arith) (λ (r : Refuses s number at). r .some z) (refusal s number at e)
+refused-some s number at e z = ⊎-elim (λ q. omega (arith, q .1)) (λ (r : Refuses s number at). r .some z) (refusal s number at e)
 
 -- the part of the sheet that a refusal points at
 pub record Points (s : List ℕ) (number at : ℕ) : Type 0 where
   pub within : at ≤ length s
   pub some : number ≤ 11 → at < length s
+  pub cut : number ≡ 3 → length s < at + 1 + bodyLength (byteAt s at)
   pub whole : 4 ≤ number → number ≤ 11 → at + 1 + bodyLength (byteAt s at) ≤ length s
+  pub behind : 12 ≤ number → at ≡ length s
 
 -- a body cut short is row 3 at the latest
 short-row : (c : Content) (last kind : ℕ) (r : List ℕ) → length r < bodyLength kind → recordRow c last kind r ≤ 3
@@ -82,7 +85,17 @@ points s number at r =
           below-or (length (drop (at + 1) s)) (bodyLength (byteAt s at))
           (λ b. absurd (omega (arith, short-row (r .content) (r .last) (byteAt s at) (drop (at + 1) s) b)))
           (λ b. omega (arith, length-drop (at + 1) s));
+      cut = λ q.
+          below-or (length (drop (at + 1) s)) (bodyLength (byteAt s at)) (λ b. omega (arith, length-drop (at + 1) s))
+          (λ b. absurd (record-cut (r .content) (r .last) (byteAt s at) (drop (at + 1) s) b (e ∙ q)));
+      behind = λ h. absurd (omega (arith, record-most (r .content) (r .last) (byteAt s at) (drop (at + 1) s)));
     })
     (λ a.
     let l = end-late (r .content) number (rw (le-ltb at (length s) a) at (r .row)) (r .some) in
-    record { within = passed-within s (r .passed); some = λ h. absurd (omega arith); whole = λ g h. absurd (omega arith) })
+    record {
+      within = passed-within s (r .passed);
+      some = λ h. absurd (omega arith);
+      cut = λ q. absurd (omega arith);
+      whole = λ g h. absurd (omega arith);
+      behind = λ h. omega (arith, passed-within s (r .passed));
+    })

@@ -1,4 +1,4 @@
-pub mod Passed
+pub mod Answers
 pub mod GoodFactors
 pub mod Longest
 pub mod RowHere

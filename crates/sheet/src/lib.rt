@@ -15,7 +15,7 @@ ghost use Rattle.record_table.specs.inner.Sizes.{size};
 ghost use Rattle.layout.specs.inner.Places.{dueOf, Allowed, contentAt};
 ghost use Rattle.layout.specs.inner.Listed.{Listed};
 ghost use Rattle.sheet.specs.Sheet.{holds, unless, recordsFrom, outcome, readSheet};
-ghost use Rattle.sheet.specs.inner.Passed.{Passed};
+ghost use Rattle.sheet.specs.Passed.{Passed};
 ghost use Rattle.sheet.specs.inner.RowHere.{RowHere, Behind};
 ghost use Rattle.sheet.specs.inner.GoodFactors.{keyOf, Good, lesser};
 use layout::Layout;

@@ -12,7 +12,7 @@ use Rattle.record_table.specs.Table.{bodyLength, bodyIn}
 use Rattle.records.specs.Content.{Content, countOf}
 use Rattle.record_rows.specs.Rows.{recordRow}
 use Rattle.record_rows.proofs.FrontRows.{Fronted}
-use Rattle.sheet.specs.inner.Passed.{Passed, none, more}
+use Rattle.sheet.specs.Passed.{Passed, none, more}
 use Rattle.sheet.proofs.Passing.{fronted, passed-laid}
 use Rattle.sheet_bytes.specs.SheetBytes.{all, sheetBytes}
 use Rattle.sheet_bytes.specs.inner.Returns.{Returned}

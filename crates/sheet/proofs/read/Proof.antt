@@ -10,7 +10,7 @@ use Rattle.layout.proofs.Contents.{none-at, layout-at}
 use Rattle.layout.proofs.Listed.{listed-none}
 use Rattle.layout.specs.inner.Places.{contentAt}
 use Rattle.layout.specs.inner.Listed.{Listed}
-use Rattle.sheet.specs.inner.Passed.{Passed, none, more}
+use Rattle.sheet.specs.Passed.{Passed, none, more}
 use Rattle.sheet.specs.Sheet.{recordsFrom, reading, readSheet}
 use Rattle.sheet.proofs.RecordByRecord.{rowHere, first-empty, first-other, read-first, read-on, from-refused, from-end}
 use Rattle.sheet.proofs.Passing.{at-laid, at-allowed, at-fronted, at-next}

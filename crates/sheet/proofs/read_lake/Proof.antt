@@ -12,7 +12,7 @@ use Rattle.layout.specs.inner.Listed.{Listed}
 use Rattle.layout.proofs.Contents.{layout-at}
 use Rattle.fields.specs.Fields.{byteAt}
 use Rattle.sheet.specs.Sheet.{recordsFrom, outcome}
-use Rattle.sheet.specs.inner.Passed.{Passed, more}
+use Rattle.sheet.specs.Passed.{Passed, more}
 use Rattle.sheet.specs.inner.RowHere.{Behind}
 use Rattle.sheet.proofs.RecordByRecord.{rowHere, from-passed, from-refused, from-end}
 use Rattle.sheet.proofs.Passing.{at-laid, at-allowed, at-fronted, at-next}

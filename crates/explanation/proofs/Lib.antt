@@ -1,0 +1,4 @@
+pub mod Parts
+pub mod Reasons
+pub mod Numbers
+pub mod Promised
