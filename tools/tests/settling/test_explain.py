@@ -15,9 +15,12 @@ from unittest import mock
 sys.path.insert(0, os.path.dirname(os.path.dirname(os.path.abspath(__file__))))
 
 from common import ROOT, SAMPLE, content, run, to_bytes, write  # noqa: E402
+from m2mlib.explain import Explained  # noqa: E402
+from m2mlib.inputs import Input  # noqa: E402
 from m2mlib.library import REASONS, Library  # noqa: E402
 from m2mlib.records import BY_NUMBER, SHEET, split  # noqa: E402
 from m2mlib.refusals import refusals  # noqa: E402
+from m2mlib.settle import settled  # noqa: E402
 from m2mlib.verbs import call_verb  # noqa: E402
 from test_settle import LAKE, LIST_S, SHEET_S, TWICE, cases, damaged, examples, place_of  # noqa: E402
 
@@ -100,6 +103,9 @@ class Answers(unittest.TestCase):
         difference = statement.settled - statement.entitlement
         reason = "above" if difference > 0 else "below" if difference else "at"
         self.assertEqual(REASONS.get(answer.reason), None if statement.refusal else reason, of)
+        told = Explained(1).row(settled("x", Input("", sheet), Input("", entitlements), library)).decode()
+        said = f"is refused by row {statement.refusal}: " if statement.refusal else f", is {reason} the entitlement, so "
+        self.assertIn(said, " ".join(told.split()), of)
 
     def test_all_cases(self):
         for path, sheet, entitlements, _ in cases():
