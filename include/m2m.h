@@ -1,6 +1,6 @@
 /*
- * The market-to-market settlement of one flowgate and one interval (document 01), of whole hours, and the writer of
- * sheets (document 02, requests 1, 3, 5 and 6), for C and C++.
+ * The market-to-market settlement of one flowgate and one interval (document 01), of whole hours, the writer of sheets,
+ * and which record a refusal means (document 02, requests 1, 3, 5, 6 and 7), for C and C++.
  *
  *   rt staticlib exports                                        writes target/staticlib/libexports.a
  *   cc -Iinclude my.c target/staticlib/libexports.a -o my
@@ -74,6 +74,25 @@ typedef struct m2m_sheet {
     size_t paths;
     size_t circulations;
 } m2m_sheet;
+
+/* The reason for the price: the flow paid on is above, below or at the entitlement. A refusal has none. */
+#define M2M_REASON_NONE 0
+#define M2M_REASON_ABOVE 1
+#define M2M_REASON_BELOW 2
+#define M2M_REASON_AT 3
+
+/*
+ * Which part of the sheet a refusal means, or why an accepted interval has its price. All records before the part pass.
+ * Rows 1 and 2: the kind byte alone. Row 3: from the kind byte to the sheet's end. Rows 4 to 11: the whole record. Of an
+ * empty sheet, of all other rows and of an accepted sheet it is the empty part at the sheet's end: from and to are the
+ * sheet's length.
+ */
+typedef struct m2m_explanation {
+    uint8_t refusal; /* the settlement's own number; 0: accepted */
+    uint8_t reason;  /* M2M_REASON_.. */
+    size_t from;     /* the part's first byte, counted from 0 */
+    size_t to;       /* the byte behind its last */
+} m2m_explanation;
 
 /* What the list says of a flowgate, rows 14 and 15: 0 and the entitlement in tenths of a MW, or the number and 0. */
 typedef struct m2m_entitled {
@@ -235,6 +254,9 @@ m2m_statement m2m_settle(const uint8_t *sheet, size_t sheet_length, const uint8_
  */
 m2m_printed m2m_report(const uint8_t *sheet, size_t sheet_length, const uint8_t *list, size_t list_length,
                        uint8_t *out, size_t out_length);
+
+/* Tells which part of a sheet is refused, or the reason for the price. Nothing is printed, so 23 does not occur. */
+m2m_explanation m2m_explain(const uint8_t *sheet, size_t sheet_length, const uint8_t *list, size_t list_length);
 
 /* Reads a sheet alone. */
 m2m_sheet m2m_read(const uint8_t *sheet, size_t sheet_length);

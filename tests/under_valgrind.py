@@ -1,9 +1,9 @@
 #!/usr/bin/env python3
 """under_valgrind.py PROGRAM.. COUNT: the settlement under valgrind.
 
-The library settles every case file in one process, each input in a block of memory of just its length, and adds it to
-hours. Each program, `settle` or `hour`, runs on COUNT of its case files, spread over all of them, and on what it meets
-otherwise: missing files, a folder, usage.
+The library settles and explains every case file in one process, each input in a block of memory of just its length, and
+adds it to hours. Each program, `settle`, `explain` or `hour`, runs on COUNT of its case files, spread over all of them, and
+on what it meets otherwise: missing files, a folder, usage.
 """
 import os
 import subprocess
@@ -72,16 +72,18 @@ def spread(every, count):
     return every[:: -(-len(every) // count)]
 
 
-def settle(program, count, folder):
+def interval(program, count, folder):
+    """A program that takes a sheet and a list: `settle` or `explain`."""
     chosen = spread(list(cases("cases")), count)
     for name, [(sheet, entitlements)] in chosen:
         write(folder, "sheet.bin", sheet)
         write(folder, "entitle.bin", entitlements)
         watched(name, program, cwd=folder)
     watched("two names", program, "sheet.bin", "entitle.bin", cwd=folder)
-    missing = "settle: none: No such file or directory\n"
+    name = os.path.basename(program)
+    missing = "%s: none: No such file or directory\n" % name
     watched("missing", program, "none", "entitle.bin", told=missing, cwd=folder)
-    watched("a folder", program, "sheet.bin", ".", told="settle: .: Is a directory\n", cwd=folder)
+    watched("a folder", program, "sheet.bin", ".", told="%s: .: Is a directory\n" % name, cwd=folder)
     usage = subprocess.run([program, "--help"], capture_output=True, text=True).stderr
     watched("usage", program, "--help", told=usage, cwd=folder)
     return len(chosen)
@@ -105,6 +107,9 @@ def hour(program, count, folder):
     return len(chosen)
 
 
+RUNS = {"settle": interval, "explain": interval, "hour": hour}
+
+
 def main(programs, count):
     every = [*cases("cases"), *cases("hours")]
     with tempfile.TemporaryDirectory() as folder:
@@ -112,7 +117,7 @@ def main(programs, count):
         done = ["%d cases in the library" % len(every)]
         for program in map(os.path.abspath, programs):
             name = os.path.basename(program)
-            done.append("%d in %s" % ({"settle": settle, "hour": hour}[name](program, count, folder), name))
+            done.append("%d in %s" % (RUNS[name](program, count, folder), name))
     print(", ".join(done) + ", nothing found")
 
 

@@ -6,12 +6,11 @@ Whatever fails must be told on standard error, and the hour takes no interval fr
 import errno
 import os
 import sys
-import threading
 from functools import partial
 
 sys.dont_write_bytecode = True
 
-from runs import LIST, REPEATED, SHEET, failing_outputs, interrupted_calls, run_all, said_by_page, same, told_by, why
+from runs import LIST, REPEATED, SHEET, failing_outputs, interrupted_calls, pipe, run_all, said_by_page, same, told_by, why
 
 AMOUNT = 1328125
 TAKEN = b"amount %d\n" % AMOUNT
@@ -114,22 +113,8 @@ def named(run):
     same(found, hour(*answers), told("none", errno.ENOENT) * 500, of="each second of 1000 missing")
     with open(run.path("sheet.bin"), "rb") as sheet:
         same(run(arguments=["entitle.bin", "/dev/stdin", "sheet.bin"], stdin=sheet), BOTH, of="standard input by name")
-    fed(run)
-
-
-def fed(run):
-    """A named pipe, fed in pieces."""
-    os.mkfifo(run.path("pipe"))
-
-    def feed():
-        with open(run.path("pipe"), "wb", buffering=0) as pipe:
-            for at in range(0, len(SHEET), 50):
-                pipe.write(SHEET[at : at + 50])
-
-    feeder = threading.Thread(target=feed)
-    feeder.start()
-    same(run(arguments=["entitle.bin", "sheet.bin", "pipe"]), BOTH, of="a named pipe")
-    feeder.join()
+    with pipe(run.path("pipe"), SHEET):
+        same(run(arguments=["entitle.bin", "sheet.bin", "pipe"]), BOTH, of="a named pipe")
 
 
 def manual(run):

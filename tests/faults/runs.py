@@ -7,6 +7,8 @@ import resource
 import signal
 import subprocess
 import tempfile
+import threading
+from contextlib import contextmanager
 
 HERE = os.path.dirname(os.path.abspath(__file__))
 ROOT = os.path.dirname(os.path.dirname(HERE))
@@ -20,6 +22,11 @@ def content(path):
 SHEET, LIST = content("crates/settle/data/sheet.bin"), content("crates/settle/data/entitle.bin")
 # The list that made an accepted statement from its first 21 bytes: the flowgate's name stands in it twice.
 REPEATED = LIST + LIST
+
+
+def meaning(number):
+    """What a refusal means: the words of its row of docs/REFUSALS.md."""
+    return re.search(rb"^\| %d \| .*? \| (.*) \|$" % number, content("docs/REFUSALS.md"), re.M).group(1)
 
 
 def why(number):
@@ -75,6 +82,22 @@ class Runs:
 def same(found, out, err=b"", status=0, of=""):
     if found != (out, err, status):
         raise AssertionError("%s\nexpected %r\nfound    %r" % (of, (out, err, status), found))
+
+
+@contextmanager
+def pipe(path, data):
+    """A named pipe, fed in pieces."""
+    os.mkfifo(path)
+
+    def feed():
+        with open(path, "wb", buffering=0) as fed:
+            for at in range(0, len(data), 50):
+                fed.write(data[at : at + 50])
+
+    feeder = threading.Thread(target=feed)
+    feeder.start()
+    yield
+    feeder.join()
 
 
 def interrupted_calls(run, files):

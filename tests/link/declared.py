@@ -101,7 +101,7 @@ def structs_of_rust(text):
 
 def rust(functions, text, folder):
     """The layout of the Rust declarations, as the Rust compiler has it."""
-    plain = re.sub(r"//[^\n]*|\bpub ", "", text)
+    plain = re.sub(r"\bpub ", "", text)
     structs, sources = structs_of_rust(plain)
     answers = dict(re.findall(r"fn (m2m_\w+)\([^)]*\) -> (\w+);", plain))
     lines = []
@@ -124,6 +124,7 @@ def rust(functions, text, folder):
 
 
 def rust_text():
+    """The sources that declare structs or functions, without their comments."""
     paths = glob.glob(os.path.join(ROOT, "compare/src/**/*.rs"), recursive=True)
     paths += glob.glob(os.path.join(ROOT, "second/src/*.rs"))
     texts = []
@@ -131,7 +132,7 @@ def rust_text():
         with open(path) as file:
             text = file.read()
         if "repr(C)" in text or 'extern "C"' in text or "pub type" in text:
-            texts.append(text)
+            texts.append(re.sub(r"^ *//[^\n]*\n|//[^\n]*", "", text, flags=re.M))
     return "\n".join(texts)
 
 
@@ -162,5 +163,6 @@ def python():
         "m2m_hour_totals": library.Totals,
         "m2m_read_draft": library.Drafted,
         "m2m_write_draft": library.Written,
+        "m2m_explain": library.Explanation,
     }
     return {function: (list(fields(kind)), ctypes.sizeof(kind)) for function, kind in answers.items()}

@@ -1,6 +1,6 @@
 /* every_case: settles the cases that standard input holds, a sheet and a list in hexadecimal digits to a line ('-' for no
  * bytes), each in a block of memory of just its length, so that valgrind sees any byte read or written beside them. Each is
- * also read as a draft and written again, and added to an hour; a line 'hour' begins another. */
+ * also explained, read as a draft and written again, and added to an hour; a line 'hour' begins another. */
 #include "m2m.h"
 
 #include <stdio.h>
@@ -47,6 +47,17 @@ static void rewrite(block sheet, size_t room) {
     free(out);
 }
 
+/* The part that is refused lies within the sheet. */
+static void explain(block sheet, block list) {
+    m2m_explanation e = m2m_explain(sheet.bytes, sheet.length, list.bytes, list.length);
+    printf("%d %d ", e.refusal, e.reason);
+    for (size_t i = e.from; i < e.to; i++)
+        printf("%02x", sheet.bytes[i]);
+    printf("\n");
+    if ((e.refusal == 0) != (e.reason != M2M_REASON_NONE) || e.from > e.to || e.to > sheet.length)
+        exit(4);
+}
+
 static m2m_hour add(m2m_hour hour, block sheet, block list) {
     m2m_changed c = m2m_hour_add(hour, sheet.bytes, sheet.length, list.bytes, list.length);
     m2m_totals t = m2m_hour_totals(c.hour);
@@ -73,6 +84,7 @@ int main(void) {
         p = m2m_report(sheet.bytes, sheet.length, list.bytes, list.length, out, sizeof out);
         printf("%d %d %d\n", s.refusal, r.refusal, e.refusal);
         report(sheet, list, p.length);
+        explain(sheet, list);
         rewrite(sheet, sheet.length);
         hour = add(hour, sheet, list);
         free(sheet.bytes);

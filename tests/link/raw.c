@@ -31,6 +31,7 @@ extern void *m2m_hour_add(void *, block, const uint8_t *, size_t, const uint8_t 
 extern void *m2m_hour_totals(void *, block);
 extern void *m2m_read_draft(void *, const uint8_t *, size_t);
 extern registers m2m_write_draft(block, uint8_t *, size_t);
+extern void *m2m_explain(void *, const uint8_t *, size_t, const uint8_t *, size_t);
 
 static uint8_t sheet[FILE_ROOM], list[FILE_ROOM], out[ROOM], written[FILE_ROOM];
 static size_t sheet_length, list_length;
@@ -76,7 +77,7 @@ static const struct {
 } functions[] = {
     {"m2m_settle", SHOWN},      {"m2m_report", SHOWN},   {"m2m_read", SHOWN},        {"m2m_entitlement", SHOWN},
     {"m2m_hour_open", SHOWN},   {"m2m_hour_add", SHOWN}, {"m2m_hour_totals", SHOWN}, {"m2m_read_draft", ROOM},
-    {"m2m_write_draft", SHOWN},
+    {"m2m_write_draft", SHOWN}, {"m2m_explain", SHOWN},
 };
 
 static void call(int f, uint8_t *answer) {
@@ -100,6 +101,7 @@ static void call(int f, uint8_t *answer) {
         r = m2m_write_draft(draft(), written, sizeof written);
         memcpy(answer, &r, sizeof r);
         break;
+    case 9: m2m_explain(answer, sheet, sheet_length, list, list_length); break;
     }
 }
 

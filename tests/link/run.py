@@ -30,6 +30,7 @@ FUNCTIONS = (
     "m2m_hour_totals",
     "m2m_read_draft",
     "m2m_write_draft",
+    "m2m_explain",
 )
 # Answers of 16 bytes, which come in two registers.
 IN_REGISTERS = ("m2m_entitlement", "m2m_write_draft")
@@ -48,6 +49,7 @@ FIELDS = {
     "m2m_hour_totals": "seconds amount nyiso pjm".split(),
     "m2m_read_draft": drafts.FIELDS,
     "m2m_write_draft": ["refusal", "length"],
+    "m2m_explain": ["refusal", "reason", "from", "to"],
 }
 # So many sheets tell each byte of a draft from all others.
 DRAFTS = 40
@@ -109,8 +111,20 @@ def expected(sheet, listing, value):
         "m2m_report": dict(values, length=len(listing)),
         "m2m_read": counts,
         "m2m_entitlement": dict(refusal=bytes(1), value=value),
+        "m2m_explain": explained(0, reason(values), len(sheet), len(sheet)),
         **hour_of([values] * 2, sheet),
     }
+
+
+def reason(values):
+    """Where the flow paid on is: 1 above the entitlement, 2 below it, 3 at it."""
+    difference = values["settled"] - values["entitlement"]
+    return 1 if difference > 0 else 2 if difference < 0 else 3
+
+
+def explained(refusal, why, start, end):
+    """What m2m_explain says."""
+    return {"refusal": bytes([refusal]), "reason": bytes([why]), "from": start, "to": end}
 
 
 def hour_of(taken, sheet, refusal=0):
@@ -186,19 +200,20 @@ def seen(raw, folder):
         drafted = drafts.sheet(head, records)
         memory.meet(drafted, b"", lambda listing: drafts.expected(head, records, len(drafted)))
 
-    # Refusals tell the number and the place apart from zeros.
-    def refused(number, place):
+    # Refusals tell the number and the place apart from zeros, and both ends of the part that is refused.
+    def refused(number, place, end):
         zeros = {function: dict.fromkeys(fields, 0) for function, fields in FIELDS.items()}
         for function in FUNCTIONS[:2]:
             zeros[function].update(refusal=bytes([number]), name=bytes(16), has_paths=bytes(1))
         zeros["m2m_read"].update(refusal=bytes([number]), place=place)
         zeros["m2m_entitlement"].update(refusal=b"\x0e")
+        zeros["m2m_explain"] = explained(number, 0, place, end)
         return {**zeros, **hour_of([], sheet, number), **drafts.refused(number)}
 
     sheet = bytearray(sheet)
     sheet[28 + 25] = 9
-    memory.meet(bytes(sheet), b"\x11", lambda listing: refused(2, 28 + 25))
-    memory.meet(bytes(sheet[: 28 + 10]), b"\x11", lambda listing: refused(3, 28))
+    memory.meet(bytes(sheet), b"\x11", lambda listing: refused(2, 28 + 25, 28 + 25 + 1))
+    memory.meet(bytes(sheet[: 28 + 10]), b"\x11", lambda listing: refused(3, 28, 28 + 10))
     return laid(memory.places, memory.sizes), memory.written
 
 
@@ -307,6 +322,14 @@ HEADER_EDITS = (
     ("    size_t circulation_count;\n", ""),
     ("    uint8_t refusal;\n    m2m_draft draft;", "    m2m_draft draft;\n    uint8_t refusal;"),
     ("    uint8_t refusal;\n    size_t length;", "    size_t length;\n    uint8_t refusal;"),
+    ("from", "to"),
+    ("uint8_t reason;", "uint16_t reason;"),
+    ("    uint8_t reason;  /* M2M_REASON_.. */\n", ""),
+    ("    size_t from; ", "    uint32_t from; "),
+    (
+        "uint8_t refusal; /* the settlement's own number; 0: accepted */\n    uint8_t reason;",
+        "uint8_t reason; /* the settlement's own number; 0: accepted */\n    uint8_t refusal;",
+    ),
 )
 RUST_EDITS = (
     ("nyiso", "pjm"),
@@ -332,6 +355,10 @@ RUST_EDITS = (
     ("par_count: usize,", "par_count: u32,"),
     ("path_count: usize,", "path_count: u32,"),
     ("    pub draft: Draft,\n", ""),
+    ("from", "to"),
+    ("    pub refusal: u8,\n    pub reason: u8,", "    pub reason: u8,\n    pub refusal: u8,"),
+    ("    pub reason: u8,", "    pub reason: u16,"),
+    ("    pub to: usize,", "    pub to: u32,"),
 )
 
 

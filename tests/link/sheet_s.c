@@ -1,5 +1,5 @@
 /* sheet_s SHEET LIST LISTING: a C program that links the settlement. Settles sheet S of document 01 and checks each figure,
- * the listing, the reader's counts, the entitlement, refusals, and hours that take it. */
+ * the listing, the reader's counts, the entitlement, refusals and what they mean, and hours that take it. */
 #include "m2m.h"
 
 #include "check.h"
@@ -63,6 +63,37 @@ static void check_reading(const file *sheet, const file *list) {
     CHECK(e.refusal == 15 && e.value == 0);
     e = m2m_entitlement(list->bytes, list->length - 1, sheet->bytes + 1, 16);
     CHECK(e.refusal == 14 && e.value == 0);
+}
+
+static void check_explained(const file *sheet, size_t length, const file *list, m2m_explanation expected) {
+    m2m_explanation e = m2m_explain(sheet->bytes, length, list->bytes, list->length);
+    CHECK(e.refusal == expected.refusal && e.reason == expected.reason);
+    CHECK(e.from == expected.from && e.to == expected.to);
+}
+
+/* The reason for the price, and the part that is refused: a kind byte, what is left of a record, a whole one, the end. */
+static void check_explanations(file sheet, file list) {
+    file none = {{0}, 0};
+    size_t end = sheet.length;
+    check_explained(&sheet, end, &list, (m2m_explanation){0, M2M_REASON_ABOVE, end, end});
+    check_explained(&none, 0, &list, (m2m_explanation){1, M2M_REASON_NONE, 0, 0});
+    check_explained(&list, list.length, &sheet, (m2m_explanation){1, M2M_REASON_NONE, 0, 1});
+    check_explained(&sheet, 30, &list, (m2m_explanation){3, M2M_REASON_NONE, 28, 30});
+    check_explained(&sheet, 53, &list, (m2m_explanation){12, M2M_REASON_NONE, 53, 53});
+    check_explained(&sheet, end, &none, (m2m_explanation){15, M2M_REASON_NONE, end, end});
+    list.bytes[18] = 1; /* an entitlement of 6563.6 MW */
+    check_explained(&sheet, end, &list, (m2m_explanation){0, M2M_REASON_BELOW, end, end});
+    list.bytes[18] = list.bytes[20] = 0;
+    for (size_t k = 218; k < end; k += 7) /* all factors, and so the flow */
+        sheet.bytes[k + 5] = sheet.bytes[k + 6] = 0;
+    check_explained(&sheet, end, &list, (m2m_explanation){0, M2M_REASON_AT, end, end});
+    sheet.bytes[53] = 9;
+    check_explained(&sheet, end, &list, (m2m_explanation){2, M2M_REASON_NONE, 53, 54});
+    sheet.bytes[53] = 1;
+    check_explained(&sheet, end, &list, (m2m_explanation){4, M2M_REASON_NONE, 53, 81});
+    sheet.bytes[53] = 2;
+    sheet.bytes[55] = '1'; /* Z1 for Z2 */
+    check_explained(&sheet, end, &list, (m2m_explanation){7, M2M_REASON_NONE, 53, 78});
 }
 
 static void check_totals(m2m_hour hour, uint32_t seconds, int64_t amount) {
@@ -145,6 +176,7 @@ int main(int count, char **words) {
     check_refused(m2m_settle(list.bytes, list.length, sheet.bytes, sheet.length), 1);
     check_listing(&sheet, &list, &listing);
     check_reading(&sheet, &list);
+    check_explanations(sheet, list);
     check_hours(sheet, &list);
     check_written(&sheet, &list);
     return failures ? 1 : 0;

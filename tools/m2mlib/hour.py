@@ -6,6 +6,7 @@ from .hour_outputs import FORMATS, Lines
 from .inputs import Input, intervals
 from .library import Library
 from .settle import chosen, each, load_interval
+from .words import place_of
 
 
 class Added(NamedTuple):
@@ -15,7 +16,7 @@ class Added(NamedTuple):
     sheet: Input
     entitlements: Input
     refusal: int
-    place: int = None  # of the offending record, or None
+    place: int = None  # where the sheet is refused, or None
     seconds: int = None
     amount: int = None
 
@@ -34,7 +35,7 @@ class Growing:
         changed = self.library.add(self.hour, sheet.data, entitlements.data)
         added = Added(interval.name, sheet, entitlements, changed.refusal)
         if changed.refusal:
-            return added._replace(place=self.library.place(sheet.data))
+            return added._replace(place=place_of(self.library.explain(sheet.data, entitlements.data)))
         self.hour = changed.hour
         last = self.hour.count - 1
         return added._replace(seconds=self.hour.seconds[last], amount=self.hour.amounts[last])

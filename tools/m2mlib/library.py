@@ -77,6 +77,20 @@ class Sheet(ctypes.Structure):
     ]
 
 
+REASONS = {1: "above", 2: "below", 3: "at"}  # where the flow paid on is; a refusal has 0
+
+
+class Explanation(ctypes.Structure):
+    """A refusal's number and the part of the sheet that it means, or 0 and the reason for the price."""
+
+    _fields_ = [
+        ("refusal", ctypes.c_uint8),
+        ("reason", ctypes.c_uint8),
+        ("from_", ctypes.c_size_t),
+        ("to", ctypes.c_size_t),
+    ]
+
+
 class Hour(ctypes.Structure):
     """The amounts and seconds of its intervals, how many there are, their flowgate's name and Monitoring RTO."""
 
@@ -222,6 +236,7 @@ class Library:
         try:
             library = ctypes.CDLL(path)
             self.report, self.read = library.m2m_report, library.m2m_read
+            self.explanation = library.m2m_explain
             self.hour_open, self.hour_add = library.m2m_hour_open, library.m2m_hour_add
             self.hour_totals = library.m2m_hour_totals
             self.draft_read, self.draft_write = library.m2m_read_draft, library.m2m_write_draft
@@ -230,6 +245,7 @@ class Library:
         part = [ctypes.c_char_p, ctypes.c_size_t]
         self.report.argtypes, self.report.restype = part * 3, Printed
         self.read.argtypes, self.read.restype = part, Sheet
+        self.explanation.argtypes, self.explanation.restype = part * 2, Explanation
         self.hour_open.argtypes, self.hour_open.restype = [], Hour
         self.hour_add.argtypes, self.hour_add.restype = [Hour, *part * 2], Changed
         self.hour_totals.argtypes, self.hour_totals.restype = [Hour], Totals
@@ -244,10 +260,9 @@ class Library:
             return printed.statement, b"refused %d\n" % printed.statement.refusal
         return printed.statement, out.raw[: printed.length]
 
-    def place(self, sheet):
-        """Where the reader refuses a sheet, or None."""
-        answer = self.read(sheet, len(sheet))
-        return answer.place if answer.refusal else None
+    def explain(self, sheet, entitlements=b""):
+        """Which part of the sheet a refusal means, or why the price is taken; no list tells the reader's refusals."""
+        return self.explanation(sheet, len(sheet), entitlements, len(entitlements))
 
     def add(self, hour, sheet, entitlements):
         """The hour with the interval, or a refusal's number and the hour as it was."""

@@ -14,7 +14,7 @@ from .library import Library
 from .outputs import as_lines, wrapped
 from .records import SHEET
 from .trouble import Trouble
-from .words import refusal_words
+from .words import place_of, refusal_words
 
 NOTHING = Input("", b"")
 NEW = re.compile(r"\.new(-[0-9]+)?\Z")
@@ -26,7 +26,7 @@ def set_fields(call):
     sheet, library = load(path), Library()
     drafted = library.read_draft(sheet.data)
     if drafted.refusal:
-        return tell(refusal_words(drafted.refusal, sheet, library.place(sheet.data), NOTHING), call)
+        return tell(refusal_words(drafted.refusal, sheet, place_of(library.explain(sheet.data)), NOTHING), call)
     changes = read_changes([os.fsencode(text).decode("latin-1") for text in texts], drafted.draft)
     for change in changes:
         alter(drafted.draft, change.kind, change.index, change.field, change.value)

@@ -7,9 +7,10 @@ from typing import NamedTuple
 
 from . import against
 from .inputs import LISTS, Input, intervals, load_one
-from .library import Library, Statement
+from .library import Explanation, Library, Statement
 from .outputs import FORMATS, Listing
 from .trouble import Trouble, warn
+from .words import place_of
 
 load_list = lru_cache(maxsize=1)(load_one)
 
@@ -22,11 +23,16 @@ class Result(NamedTuple):
     entitlements: Input
     statement: Statement
     listing: bytes
-    place: int  # of the offending record, or None
+    explanation: Explanation
 
     @property
     def refusal(self):
         return self.statement.refusal
+
+    @property
+    def place(self):
+        """Where the sheet is refused, or None."""
+        return place_of(self.explanation)
 
 
 class Progress:
@@ -102,5 +108,5 @@ def settle_one(interval, library, old=None):
 
 def settled(name, sheet, entitlements, library):
     statement, listing = library.settle(sheet.data, entitlements.data)
-    place = library.place(sheet.data) if statement.refusal else None
-    return Result(name, sheet, entitlements, statement, listing, place)
+    explanation = library.explain(sheet.data, entitlements.data)
+    return Result(name, sheet, entitlements, statement, listing, explanation)

@@ -7,6 +7,7 @@ from typing import Callable, NamedTuple
 
 from .cases import case_files, case_lines
 from .earlier import tell_earlier
+from .explain import explain
 from .files import read_file, read_input
 from .forms import show
 from .hour import hour
@@ -87,6 +88,7 @@ SEE = "'m2m --help' tells all"
 ANY = 1 << 62
 VERBS = {
     "settle": Verb(settle, 1, ANY, ("words", "json", "csv", "list=", "against=")),
+    "explain": Verb(explain, 1, ANY, ("list=",)),
     "hour": Verb(hour, 1, ANY, ("words", "json", "list=")),
     "set": Verb(set_fields, 2, ANY, ("to=", "over")),
     "check": Verb(check, 1, ANY),

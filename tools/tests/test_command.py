@@ -45,6 +45,7 @@ class Command(unittest.TestCase):
             ["set"], ["set", "a.txt"], ["set", "no-such", "seconds 1"], ["set", SAMPLE, "seconds 1"],
             ["set", "--to"], ["settle", "--against", "no-such", SAMPLE], ["settle", "--against", SAMPLE],
             ["settle", "--against", os.path.dirname(SAMPLE), SAMPLE, SAMPLE], ["hour", "--against", SAMPLE, SAMPLE],
+            ["explain"], ["explain", "--words", SAMPLE], ["explain", "a.txt"], ["explain", "no", "such"],
         ):
             outcome = run(*arguments, env={"PATH": os.environ["PATH"], "RT_JOBS": "1"})
             self.assertEqual(outcome.stdout, b"")

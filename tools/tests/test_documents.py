@@ -7,7 +7,7 @@ from common import content, draft_of, to_bytes
 from m2mlib.changes import listed, read_changes
 from m2mlib.drafts import WORDS
 from m2mlib.forms import FORMS
-from m2mlib.library import FIGURES, HOUR_FIGURES, INTERVALS, LONGEST_SHEET, ROOM
+from m2mlib.library import FIGURES, HOUR_FIGURES, INTERVALS, LONGEST_SHEET, REASONS, ROOM
 from m2mlib.manual import manual
 from m2mlib.records import BY_NUMBER, KINDS
 from m2mlib.refusals import refusals
@@ -89,7 +89,8 @@ class Documents(unittest.TestCase):
             self.assertEqual(declared, [f.name for f in figures])
         for name, value in (
             ("HOUR_INTERVALS", INTERVALS), ("LISTING_ROOM", ROOM), ("SHEET_ROOM", LONGEST_SHEET),
-            ("MOST_PATHS", BY_NUMBER[7].most), ("MOST_CIRCULATIONS", BY_NUMBER[8].most),
+            ("MOST_PATHS", BY_NUMBER[7].most), ("MOST_CIRCULATIONS", BY_NUMBER[8].most), ("REASON_NONE", 0),
+            *((f"REASON_{word.upper()}", value) for value, word in REASONS.items()),
         ):
             self.assertIn(f"#define M2M_{name} {value}\n", header)
         self.assertEqual(FORMAT.count(f"{ROOM} bytes"), 3)

@@ -87,7 +87,7 @@ factors 0 zone 1 20000
         self.assert_told(
             SOUND + "zone Y load 1 losses 0\nhead G monitoring PJM seconds 1 prices 0 0\nfactor 0 zone 2 0",
             "line 5: zone 2, Y: out of order, or a second head: it stands behind a factor (refusal 4)",
-            "line 6: head, G: out of order, or a second head: it stands behind a factor (refusal 4)",
+            "line 6: head 2, G: out of order, or a second head: it stands behind a factor (refusal 4)",
         )
         pars = "repeat i 1 9\npar T$i common actual 0 target 0\nend\ndue 0"
         self.assert_told(
@@ -102,7 +102,7 @@ factors 0 zone 1 20000
             "line 6: path 2, J1: name repeated: line 5 has it already (refusal 7)",
             "line 6: path 2, J1: number out of range: flow 200001 is not in -200000..200000 (refusal 9)",
             "line 7: path 3, J3: factor out of range: factor -10001 is not in -10000..10000 (refusal 11)",
-            "line 10: circulation: one too many: 1 are allowed (refusal 5)",
+            "line 10: circulation 2: one too many: 1 are allowed (refusal 5)",
             "line 10: x is no whole number: whole tenths of a MW are wanted",
         )
         more = 'path "" flow 0 factor 0\ncirculation -200_001'

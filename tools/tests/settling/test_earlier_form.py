@@ -89,7 +89,7 @@ class Told(unittest.TestCase):
         for text in (content("samples/sheet-s/sheet.txt"), content("samples/wheels/sheet.txt")):
             for length in range(len(SHEET_S) + 1):
                 sheet = earlier(to_bytes(text))[:length]
-                self.assertFalse(is_earlier(sheet) and library.place(sheet) is None, length)
+                self.assertFalse(is_earlier(sheet) and not library.read(sheet, len(sheet)).refusal, length)
 
 
 if __name__ == "__main__":

@@ -46,6 +46,12 @@ def examples():
                 yield number, *interval_of(case)
 
 
+def place_of(sheet):
+    """Where the reader refuses a sheet, or None."""
+    answer = library.read(sheet, len(sheet))
+    return answer.place if answer.refusal else None
+
+
 def interval_of(case):
     (interval,) = case.intervals
     return *interval, case.settings
@@ -56,7 +62,7 @@ class Answers(unittest.TestCase):
         if any(setting.startswith("buffer") for setting in settings):
             return
         statement, listing = library.settle(sheet, entitlements)
-        place = library.place(sheet)
+        place = place_of(sheet)
         for setting in settings:
             word, _, rest = setting.removeprefix("expect ").partition(" ")
             if word == "refused":
@@ -91,10 +97,10 @@ class Answers(unittest.TestCase):
     def test_faults_are_told_exactly_where_the_reader_refuses(self):
         chance = random.Random(4)
         for path, sheet, _, _ in cases():
-            self.assertEqual(bool(faults(sheet, SHEET)), library.place(sheet) is not None, path)
+            self.assertEqual(bool(faults(sheet, SHEET)), place_of(sheet) is not None, path)
         for _ in range(3000):
             sheet = damaged(chance.choice((SHEET_S, LAKE)), SHEET, chance)
-            self.assertEqual(bool(faults(sheet, SHEET)), library.place(sheet) is not None, sheet.hex())
+            self.assertEqual(bool(faults(sheet, SHEET)), place_of(sheet) is not None, sheet.hex())
 
     def test_faults_of_a_list_are_told_exactly_where_row_14_is_met(self):
         chance = random.Random(5)
