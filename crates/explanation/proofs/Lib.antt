@@ -2,3 +2,4 @@ pub mod Parts
 pub mod Reasons
 pub mod Numbers
 pub mod Promised
+pub mod Long

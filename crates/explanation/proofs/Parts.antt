@@ -48,11 +48,15 @@ module _ (s : List ℕ) (number at : ℕ) where
       (λ b. let e = ends-short b in (omega arith, omega arith))
       (λ b. let e = ends-whole b in (omega arith, omega arith))
 
+  pub shown-most : shown ≤ mostSize
+  shown-most =
+      let m = size-most (byteAt s at) in
+      below-or 2 number (λ h. omega (arith, whole-record h)) (λ h. omega (arith, kind-byte h))
+
   -- no part is longer than a record
   pub part-short : partEnd s number at ≤ at + mostSize
   part-short =
-      let m = size-most (byteAt s at) in
-      let n : shown ≤ mostSize = below-or 2 number (λ h. omega (arith, whole-record h)) (λ h. omega (arith, kind-byte h)) in
+      let n = shown-most in
       below-or (length s) (at + shown) (λ b. omega (arith, ends-short b)) (λ b. omega (arith, ends-whole b))
 
   part-some : at < length s → at < partEnd s number at
