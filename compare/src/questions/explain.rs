@@ -28,7 +28,7 @@ const FIRST_SEEDED: u64 = 1 << 32;
 /// One in so many beginnings of a longest sheet, which no divisor has in common with the
 /// length of a record: every number of bytes present comes up.
 const SWEEP_STEP: usize = 9;
-/// The program is run on one in so many of the inputs made here.
+/// The program is run on one in so many of the inputs made for a landmark.
 const PROGRAM_STEP: usize = 7;
 
 pub struct Explain {
@@ -149,14 +149,14 @@ impl Question for Explain {
     }
 
     fn program(&mut self, path: &Path, seed: u64) -> Outcome {
-        let made = self.directed_inputs(seed);
-        let cases = self.cases.iter().map(|case| case.input.clone());
+        let own = self.directed_inputs(seed);
+        let own = own.iter().map(|(input, _)| input.clone());
         let directed = settle::directed::all(seed).into_iter();
-        let directed = directed.map(|(input, _)| input);
-        let made = made.iter().step_by(PROGRAM_STEP);
-        let made = made.map(|(input, _)| input.clone());
+        let directed = directed.map(|(input, _)| input).chain(own);
+        let cases = self.cases.iter().map(|case| case.input.clone());
         let seeded = (0..settle::PROGRAM_INPUTS).map(|k| input(seed, FIRST_SEEDED + k));
-        let inputs = cases.chain(directed).chain(made).chain(seeded);
+        let directed = directed.step_by(PROGRAM_STEP);
+        let inputs = cases.chain(directed).chain(seeded);
         let printed = |sheet: &[u8], list: &[u8]| explained(sheet, list).into_bytes();
         program::check_all(path, self.name(), printed, inputs)
     }
