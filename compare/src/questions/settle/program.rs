@@ -13,7 +13,7 @@ const SHEET_FILE: &str = "sheet.bin";
 const LIST_FILE: &str = "entitle.bin";
 
 /// A program of one interval.
-pub struct OfInterval {
+struct OfInterval {
     program: Program,
     /// How it calls itself.
     name: &'static str,
@@ -38,8 +38,7 @@ pub fn check_all(
     };
     let mut runs = program.check_absent_files()?;
     for input in inputs.chain(long_files()) {
-        let outcome = program.check(&input, [Supply::Written; 2]);
-        outcome.map_err(|it| input.trouble(it))?;
+        program.check(&input).map_err(|it| input.trouble(it))?;
         runs += 1;
     }
     println!("{what}: {runs} runs");
@@ -57,7 +56,7 @@ impl OfInterval {
         let mut runs = 0;
         for sheet in Supply::ALL {
             for list in Supply::ALL {
-                let outcome = self.check(&input, [sheet, list]);
+                let outcome = self.check_supplied(&input, [sheet, list]);
                 outcome.map_err(|mismatch| input.trouble(mismatch))?;
                 runs += 1;
             }
@@ -66,7 +65,12 @@ impl OfInterval {
     }
 
     /// Holds the printed text against the second implementation's.
-    fn check(&self, input: &Input, [sheet, list]: [Supply; 2]) -> Result<(), Mismatch> {
+    fn check(&self, input: &Input) -> Result<(), Mismatch> {
+        self.check_supplied(input, [Supply::Written; 2])
+    }
+
+    fn check_supplied(&self, input: &Input, supplied: [Supply; 2]) -> Result<(), Mismatch> {
+        let [sheet, list] = supplied;
         self.program.supply(SHEET_FILE, &input.sheet, sheet)?;
         self.program.supply(LIST_FILE, &input.list, list)?;
         let expected = (self.printed)(sheet.seen(&input.sheet), list.seen(&input.list));
