@@ -4,7 +4,9 @@ use second::names::NameField;
 
 use crate::sides::drafts::{Draft, Drafted, Drafts, Written};
 use crate::sides::hours::{Changed, Hour, HourTotals, Hours};
-use crate::sides::{EntitlementAnswer, Figures, LISTING_ROOM, Printed, ReadAnswer, Side};
+use crate::sides::{
+    EntitlementAnswer, Explanation, Figures, LISTING_ROOM, Printed, ReadAnswer, Side,
+};
 
 unsafe extern "C" {
     fn m2m_settle(sheet: *const u8, sheet_len: usize, list: *const u8, list_len: usize) -> Figures;
@@ -23,6 +25,12 @@ unsafe extern "C" {
         name: *const u8,
         name_len: usize,
     ) -> EntitlementAnswer;
+    fn m2m_explain(
+        sheet: *const u8,
+        sheet_len: usize,
+        list: *const u8,
+        list_len: usize,
+    ) -> Explanation;
     fn m2m_hour_open() -> Hour;
     fn m2m_hour_add(
         hour: Hour,
@@ -65,6 +73,10 @@ impl Side for Library {
 
     fn entitlement(&self, list: &[u8], name: &NameField) -> EntitlementAnswer {
         unsafe { m2m_entitlement(list.as_ptr(), list.len(), name.as_ptr(), name.len()) }
+    }
+
+    fn explain(&self, sheet: &[u8], list: &[u8]) -> Explanation {
+        unsafe { m2m_explain(sheet.as_ptr(), sheet.len(), list.as_ptr(), list.len()) }
     }
 }
 

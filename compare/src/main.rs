@@ -11,13 +11,13 @@ use compare::sides::{Second, Sides};
 const USAGE: &str = "compare [options]
   --seed N         seed of the inputs (from the commit, or 1)
   --count M        how many seeded inputs (20000), and 1 in 20 of them hours, 1 in 2
-                   sheets read as drafts and drafts written
+                   sheets read as drafts and drafts written, 1 in 2 explanations
   --only K         the K-th input of the seed alone
-  --question NAME  one question alone: settle, hour or write
+  --question NAME  one question alone: settle, hour, write or explain
   --cases FOLDER   folder of the case files (tests/cases)
   --hours FOLDER   folder of those of hours (tests/hours)
-  --program PATH   run this program too, settle or hour by its name; as often as
-                   there are programs";
+  --program PATH   run this program too, settle, hour or explain by its name; as
+                   often as there are programs";
 
 fn options(mut words: impl Iterator<Item = String>) -> Option<(Plan, CaseFiles)> {
     let mut plan = Plan::of_seed(seed_of_commit().unwrap_or(1));

@@ -1,11 +1,13 @@
 //! What is asked of both sides. A question has its own inputs, check, tally and
 //! landmarks; another one adds a file here and a line to `all`.
 
+pub mod explain;
 pub mod hour;
 pub mod settle;
 pub mod write;
 
 use std::path::{Path, PathBuf};
+use std::rc::Rc;
 
 use crate::mismatch::Trouble;
 use crate::sides::Sides;
@@ -57,9 +59,11 @@ impl Default for CaseFiles {
 
 /// All questions, with their case files.
 pub fn all(cases: &CaseFiles) -> Result<Vec<Box<dyn Question>>, String> {
+    let of_intervals = Rc::from(settle::cases::load(&cases.settle)?);
     Ok(vec![
-        Box::new(settle::Settle::with_cases(&cases.settle)?),
+        Box::new(settle::Settle::with_cases(Rc::clone(&of_intervals))),
         Box::new(hour::Hours::with_cases(&cases.hour)?),
         Box::new(write::Write::default()),
+        Box::new(explain::Explain::with_cases(of_intervals)),
     ])
 }

@@ -78,11 +78,24 @@ pub struct EntitlementAnswer {
     pub value: i64,
 }
 
+/// Refusal and reason by their numbers, 0 where there is none, and the part of the sheet
+/// that holds the offending record.
+#[derive(Clone, Copy, Debug, Default, PartialEq, Eq)]
+#[repr(C)]
+pub struct Explanation {
+    pub refusal: u8,
+    /// The flow paid on is 1 above, 2 below, 3 at the entitlement.
+    pub reason: u8,
+    pub from: usize,
+    pub to: usize,
+}
+
 pub trait Side: Hours + Drafts {
     fn settle(&self, sheet: &[u8], list: &[u8]) -> Figures;
     fn report(&self, sheet: &[u8], list: &[u8], out: &mut [u8]) -> Printed;
     fn read(&self, sheet: &[u8]) -> ReadAnswer;
     fn entitlement(&self, list: &[u8], name: &NameField) -> EntitlementAnswer;
+    fn explain(&self, sheet: &[u8], list: &[u8]) -> Explanation;
 }
 
 /// Rounded figures that are judged by the exact ones. For the flowgate and for each
@@ -206,6 +219,16 @@ macro_rules! reference {
                 $crate::sides::EntitlementAnswer {
                     refusal: answer.map_or_else($second::Refusal::number, |_| 0),
                     value: answer.map_or(0, |value| value.0),
+                }
+            }
+
+            fn explain(&self, sheet: &[u8], list: &[u8]) -> $crate::sides::Explanation {
+                let explanation = $second::explain(sheet, list);
+                $crate::sides::Explanation {
+                    refusal: explanation.refusal(),
+                    reason: explanation.reason(),
+                    from: explanation.part.start,
+                    to: explanation.part.end,
                 }
             }
         }

@@ -9,6 +9,7 @@ pub mod draft;
 pub mod due;
 pub mod entitlement;
 pub mod exact;
+pub mod explain;
 pub mod flow;
 pub mod fraction;
 pub mod generation_to_load;
@@ -27,6 +28,7 @@ pub mod units;
 pub mod writer;
 
 pub use content::Content;
+pub use explain::{Explanation, Reason, explain, explained};
 pub use hour::Hour;
 pub use listing::{listing, printed, report};
 pub use names::Name;

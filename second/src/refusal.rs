@@ -3,6 +3,38 @@
 
 use std::fmt;
 
+/// What each number means, from 1: the words of docs/REFUSALS.md.
+pub const MEANINGS: [&str; 28] = [
+    "the sheet is empty, or its first byte is not 1",
+    "kind byte not 1..8",
+    "the sheet ends within the body",
+    "kind below the one before, or a second head",
+    "33rd zone, 257th unit, 33rd point, 9th PAR, 5th path or 2nd circulation",
+    "first byte zero, or a non-zero byte after a zero",
+    "same name earlier in the same kind",
+    "RTO, type or class neither 1 nor 2; a unit's zone 0 or above the count of zones; a place above that count",
+    "a number of kinds 1 to 5, a path's flow or the circulation outside its range",
+    "target, subject and index are not those due, or nothing is due any more",
+    "factor below -10,000 or above 10,000, a path's too",
+    "no zone, or no unit",
+    "factors are still due",
+    "a record of the list cut short, of another kind, badly named, out of range, with a repeated name, or after the 2,500th",
+    "no entry bears the flowgate's name",
+    "loads with losses, or outputs, sum above 2,000,000",
+    "a zone load is below zero",
+    "final load is zero or below",
+    "a zone generation is below zero",
+    "net generation is zero",
+    "final generation is below zero",
+    "settlement flow below -10,000,000,000 W or above 10,000,000,000 W",
+    "the output buffer is shorter than the listing",
+    "it has 60 intervals",
+    "its seconds and the interval's sum above 3600",
+    "it is not empty, and the interval has another flowgate name or Monitoring RTO",
+    "the buffer is shorter than the sheet",
+    "a path or a circulation is there, but fewer than four paths or no circulation",
+];
+
 #[derive(Clone, Copy, Debug, PartialEq, Eq, PartialOrd, Ord)]
 #[repr(u8)]
 pub enum Refusal {
@@ -55,6 +87,10 @@ impl Refusal {
 
     pub const fn number(self) -> u8 {
         self as u8
+    }
+
+    pub fn meaning(self) -> &'static str {
+        MEANINGS[usize::from(self.number()) - 1]
     }
 }
 

@@ -8,7 +8,7 @@ use crate::names::Name;
 use crate::payment::{Payment, payment};
 use crate::reader::read;
 use crate::refusal::Refusal;
-use crate::sheet::Head;
+use crate::sheet::{Head, Sheet};
 use crate::units::Watts;
 
 #[derive(Clone, Copy, Debug, PartialEq, Eq)]
@@ -37,21 +37,26 @@ pub fn settle(sheet: &[u8], list: &[u8]) -> Result<Statement, Refusal> {
 
 pub fn interval(sheet: &[u8], list: &[u8]) -> Result<Interval, Refusal> {
     let sheet = read(sheet)?;
+    let statement = statement(&sheet, list)?;
+    Ok(Interval {
+        head: sheet.head,
+        statement,
+    })
+}
+
+/// Settles a sheet that was read: rows 14 to 22.
+pub fn statement(sheet: &Sheet, list: &[u8]) -> Result<Statement, Refusal> {
     let entitlement = entitlement(list, sheet.head.name)?.watts();
-    let balance = Balance::of(&sheet);
+    let balance = Balance::of(sheet);
     balance.rows()?;
-    let flow = market_flow(&sheet, &balance);
+    let flow = market_flow(sheet, &balance);
     let settled = settlement_flow(sheet.lake.as_ref(), flow.market, entitlement);
-    let statement = Statement {
+    Ok(Statement {
         name: sheet.head.name,
         flow,
         settled,
         has_paths: sheet.lake.is_some(),
         entitlement,
         payment: payment(&sheet.head, settled, entitlement)?,
-    };
-    Ok(Interval {
-        head: sheet.head,
-        statement,
     })
 }

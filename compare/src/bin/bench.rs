@@ -97,6 +97,16 @@ fn list_row(what: &str, list: &[u8], name: &NameField) {
     row(what, list.len(), Box::new(question));
 }
 
+/// Which record refuses a sheet, or the reason for its price.
+fn explain_row(what: &str, sheet: &[u8], list: &[u8], refusal: u8) {
+    assert_eq!(Second.explain(sheet, list).refusal, refusal, "{what}");
+    let question = |side: &dyn Side| {
+        let answer = side.explain(sheet, list);
+        (answer.from + answer.to) as i64 + i64::from(answer.reason)
+    };
+    row(what, sheet.len() + list.len(), Box::new(question));
+}
+
 /// Reads a sheet as a draft, gives its first point this import, writes and settles it.
 fn resettle_row(what: &str, sheet: &[u8], import: u32, list: &[u8]) {
     let out = RefCell::new(vec![0; LONGEST_SHEET]);
@@ -176,14 +186,20 @@ fn longest(chance: &mut Chance, order: &str, rising: bool) {
     settle_row(&what("refused at its last record"), &sheet, &list);
 }
 
-/// The longest sheet there is, drawn apart from the others.
-fn with_paths(chance: &mut Chance) {
+/// The longest sheet there is.
+fn longest_with_paths(chance: &mut Chance) -> Interval {
     let mut longest = interval(chance, Sizes::LONGEST, false);
     let scale = Scale {
         power: 2_000,
         factor: 100,
     };
     add_lake(chance, &mut longest, scale);
+    longest
+}
+
+/// Drawn apart from the others.
+fn with_paths(chance: &mut Chance) {
+    let longest = longest_with_paths(chance);
     let one = draft::entitlement(longest.head.name, 5);
     let sheet = longest.records().concat();
     settle_row("longest sheet with paths, one entry", &sheet, &one);
@@ -293,6 +309,24 @@ fn drafts(chance: &mut Chance) {
     resettle_row(what, &longest.records().concat(), import, &list);
 }
 
+/// The longest sheet, refused at its last record and accepted, and sheet S.
+fn explanations(chance: &mut Chance) {
+    let mut longest = longest_with_paths(chance);
+    let list = draft::entitlement(longest.head.name, 5);
+    let sheet = longest.records().concat();
+    longest.circulations[0].flow = i32::MAX;
+    let refused = longest.records().concat();
+    explain_row(
+        "longest sheet, refused at its last record",
+        &refused,
+        &list,
+        9,
+    );
+    explain_row("longest sheet accepted", &sheet, &list, 0);
+    let sheet_s = draft::sheet_s().concat();
+    explain_row("sheet S accepted", &sheet_s, &draft::list_s(), 0);
+}
+
 fn main() {
     let chance = &mut Chance::of(2024, 1);
     println!("Microseconds, best of {ROUNDS} rounds; a buffer of {LONGEST_LISTING} bytes.");
@@ -314,4 +348,6 @@ fn main() {
     crafted(chance);
     println!("Drafts, one entry:");
     drafts(chance);
+    println!("Explanations, one entry:");
+    explanations(&mut Chance::of(2024, 3));
 }

@@ -12,10 +12,9 @@ use std::ops::Range;
 use std::path::Path;
 use std::rc::Rc;
 
-use second::Refusal;
-
 use crate::mismatch::{Mismatch, Shown, Trouble};
 use crate::program::Program;
+use crate::questions::settle::own_rows;
 use crate::questions::{Outcome, Question, settle};
 use crate::sides::Sides;
 use crate::sides::hours::Hour;
@@ -83,12 +82,6 @@ impl Shown for Place {
         }
         text
     }
-}
-
-/// The refusals that an interval has of its own; adding prints nothing.
-fn own_rows() -> impl Iterator<Item = u8> {
-    let printing = Refusal::BufferTooShort.number();
-    Refusal::of_statement().filter(move |row| *row != printing)
 }
 
 /// How many of the settlement's seeded inputs stand for one hour here.

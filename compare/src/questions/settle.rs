@@ -1,25 +1,24 @@
 //! The settlement of one interval, with its listing, its reading and its look-up.
 
 mod bounds;
-mod cases;
-mod check;
+pub(super) mod cases;
+pub(super) mod check;
 pub(super) mod directed;
 pub(super) mod earlier;
 mod expected;
 pub(super) mod faults;
 pub(super) mod inputs;
 pub(super) mod landmarks;
-mod one_record;
-mod program;
+pub(super) mod one_record;
+pub(super) mod program;
 
 use std::path::Path;
 use std::rc::Rc;
 
-use second::Refusal;
+use second::{Refusal, printed, settle};
 
 use crate::chance::Chance;
 use crate::mismatch::{Mismatch, Shown, Trouble};
-use crate::program::Program;
 use crate::questions::{Outcome, Question};
 use crate::sides::{Side, Sides};
 use crate::tally::Tally;
@@ -27,7 +26,7 @@ use crate::text;
 use cases::Case;
 use check::Answer;
 use directed::Directed;
-use expected::Expected;
+pub(super) use expected::Expected;
 
 /// The output buffer's length.
 #[derive(Clone, Copy, Debug)]
@@ -61,7 +60,7 @@ impl Input {
         second::settle(&self.sheet, &self.list)
     }
 
-    fn trouble(&self, mismatch: Mismatch) -> Box<Trouble> {
+    pub(super) fn trouble(&self, mismatch: Mismatch) -> Box<Trouble> {
         Box::new(Trouble {
             mismatch,
             input: Some(Box::new(self.clone())),
@@ -82,13 +81,19 @@ impl Shown for Input {
     }
 }
 
+/// The refusals that an interval has of its own, where nothing is printed.
+pub(super) fn own_rows() -> impl Iterator<Item = u8> {
+    let printing = Refusal::BufferTooShort.number();
+    Refusal::of_statement().filter(move |row| *row != printing)
+}
+
 /// The tally's groups.
 const ANSWERS: usize = 0;
 const LANDMARKS: usize = 1;
 const PAIRS: usize = 2;
 
 /// How many seeded inputs the program is run on.
-const PROGRAM_INPUTS: u64 = 400;
+pub(super) const PROGRAM_INPUTS: u64 = 400;
 
 pub struct Settle {
     cases: Rc<[Case]>,
@@ -98,20 +103,19 @@ pub struct Settle {
 }
 
 impl Settle {
-    /// With the case files below a folder.
-    pub fn with_cases(folder: &Path) -> Result<Self, String> {
+    pub fn with_cases(cases: Rc<[Case]>) -> Self {
         let refusals = Refusal::of_statement().map(|number| format!("refused {number}"));
         let answers = [String::from("accepted")].into_iter().chain(refusals);
         let pairs = one_record::pairs();
         let pairs = pairs.iter().map(one_record::Pair::to_string);
-        Ok(Settle {
-            cases: cases::load(folder)?.into(),
+        Settle {
+            cases,
             made: None,
             tally: Tally::default()
                 .with("answers", answers.collect(), true)
                 .with("landmarks", landmarks::names(), true)
                 .with("pairs of rows on one record", pairs.collect(), false),
-        })
+        }
     }
 
     fn directed_inputs(&mut self, seed: u64) -> Rc<[Directed]> {
@@ -243,20 +247,13 @@ impl Question for Settle {
     }
 
     fn program(&mut self, path: &Path, seed: u64) -> Outcome {
-        let what = format!("program {}", path.display());
-        let program = Program::at(path).map_err(|error| Trouble::outside(&what, error))?;
-        let mut runs = program::check_absent_files(&program)?;
         let directed = self.directed_inputs(seed);
         let cases = self.cases.iter().map(|case| case.input.clone());
         let directed = directed.iter().map(|(input, _)| input.clone());
         let seeded = (0..PROGRAM_INPUTS).map(|k| inputs::input(seed, k));
         let inputs = cases.chain(directed).chain(seeded);
-        for input in inputs.chain(program::long_files()) {
-            program::check(&program, &input).map_err(|it| input.trouble(it))?;
-            runs += 1;
-        }
-        println!("{what}: {runs} runs");
-        Ok(())
+        let listed = |sheet: &[u8], list: &[u8]| printed(&settle(sheet, list));
+        program::check_all(path, self.name(), listed, inputs)
     }
 
     fn tally(&self) -> &Tally {

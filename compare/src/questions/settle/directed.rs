@@ -1,7 +1,7 @@
 //! Inputs made for a landmark, with what document 01 says of them.
 
 mod greatest;
-mod lake;
+pub mod lake;
 pub mod lake_accuracy;
 mod lake_rows;
 mod parts;

@@ -1,48 +1,86 @@
-//! Runs the program that reads sheet.bin and entitle.bin in its working folder.
+//! Programs that read sheet.bin and entitle.bin in their working folder.
 
-use second::{draft, printed, settle};
+use std::path::Path;
+
+use second::draft;
 
 use crate::mismatch::{Mismatch, Trouble};
 use crate::program::{Program, Supply};
+use crate::questions::Outcome;
 use crate::questions::settle::Input;
 
 const SHEET_FILE: &str = "sheet.bin";
 const LIST_FILE: &str = "entitle.bin";
 
-/// Holds the printed text against the second implementation's.
-pub fn check(program: &Program, input: &Input) -> Result<(), Mismatch> {
-    check_supplied(program, input, [Supply::Written; 2])
+/// A program of one interval.
+struct OfInterval {
+    program: Program,
+    /// How it calls itself.
+    name: &'static str,
+    /// What it is to print for a sheet and a list.
+    printed: fn(&[u8], &[u8]) -> Vec<u8>,
 }
 
-/// Files that are missing or can't be read count as empty; how many runs there were.
-pub fn check_absent_files(program: &Program) -> Result<u64, Box<Trouble>> {
-    let input = Input::of(
-        "files missing or unreadable",
-        draft::sheet_s().concat(),
-        draft::list_s(),
-    );
-    let mut runs = 0;
-    for sheet in Supply::ALL {
-        for list in Supply::ALL {
-            let outcome = check_supplied(program, &input, [sheet, list]);
-            outcome.map_err(|mismatch| input.trouble(mismatch))?;
-            runs += 1;
-        }
+/// Runs the program at a path on these inputs, on long files and on files that are missing
+/// or can't be read.
+pub fn check_all(
+    path: &Path,
+    name: &'static str,
+    printed: fn(&[u8], &[u8]) -> Vec<u8>,
+    inputs: impl Iterator<Item = Input>,
+) -> Outcome {
+    let what = format!("program {}", path.display());
+    let program = Program::at(path).map_err(|error| Trouble::outside(&what, error))?;
+    let program = OfInterval {
+        program,
+        name,
+        printed,
+    };
+    let mut runs = program.check_absent_files()?;
+    for input in inputs.chain(long_files()) {
+        program.check(&input).map_err(|it| input.trouble(it))?;
+        runs += 1;
     }
-    Ok(runs)
+    println!("{what}: {runs} runs");
+    Ok(())
 }
 
-fn check_supplied(program: &Program, input: &Input, supplied: [Supply; 2]) -> Result<(), Mismatch> {
-    let [sheet, list] = supplied;
-    program.supply(SHEET_FILE, &input.sheet, sheet)?;
-    program.supply(LIST_FILE, &input.list, list)?;
-    let expected = printed(&settle(sheet.seen(&input.sheet), list.seen(&input.list)));
-    let told = sheet.told("settle", SHEET_FILE) + &list.told("settle", LIST_FILE);
-    program.hold(&[], &expected, &told)
+impl OfInterval {
+    /// Files that are missing or can't be read count as empty; how many runs there were.
+    fn check_absent_files(&self) -> Result<u64, Box<Trouble>> {
+        let input = Input::of(
+            "files missing or unreadable",
+            draft::sheet_s().concat(),
+            draft::list_s(),
+        );
+        let mut runs = 0;
+        for sheet in Supply::ALL {
+            for list in Supply::ALL {
+                let outcome = self.check_supplied(&input, [sheet, list]);
+                outcome.map_err(|mismatch| input.trouble(mismatch))?;
+                runs += 1;
+            }
+        }
+        Ok(runs)
+    }
+
+    /// Holds the printed text against the second implementation's.
+    fn check(&self, input: &Input) -> Result<(), Mismatch> {
+        self.check_supplied(input, [Supply::Written; 2])
+    }
+
+    fn check_supplied(&self, input: &Input, supplied: [Supply; 2]) -> Result<(), Mismatch> {
+        let [sheet, list] = supplied;
+        self.program.supply(SHEET_FILE, &input.sheet, sheet)?;
+        self.program.supply(LIST_FILE, &input.list, list)?;
+        let expected = (self.printed)(sheet.seen(&input.sheet), list.seen(&input.list));
+        let told = sheet.told(self.name, SHEET_FILE) + &list.told(self.name, LIST_FILE);
+        self.program.hold(&[], &expected, &told)
+    }
 }
 
 /// Inputs with files longer than any sheet or list.
-pub fn long_files() -> Vec<Input> {
+fn long_files() -> Vec<Input> {
     let (sheet, list) = (draft::sheet_s().concat(), draft::list_s());
     let mut inputs = Vec::new();
     for length in [28_004, 28_101, 28_136, 65_535, 65_536, 65_537, 200_000] {
