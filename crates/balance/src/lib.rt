@@ -1,3 +1,4 @@
+#![tactic(auto)]
 // Refusals 16 to 21, on the loads and the generation of a sheet.
 ghost use Rattle.std.specs.Prelude.{◌≡◌, ◌≤◌, pos, length};
 ghost use Rattle.std.specs.Int.Signed.{le_z};

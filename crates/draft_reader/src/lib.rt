@@ -1,3 +1,4 @@
+#![tactic(auto)]
 // The reader of drafts (document 02, requests 3 and 6): a sheet's draft, to be altered and written again, or rows 1 to 13 and 28.
 ghost use Rattle.std.specs.Prelude.{◌≡◌};
 ghost use Rattle.draft_reader.specs.DraftReader.{drafted_from};

@@ -1,3 +1,4 @@
+#![tactic(auto)]
 // A draft of a sheet: what a planner alters and the writer takes (document 02, requests 3 and 6).
 ghost use Rattle.std.specs.Prelude.{◌≡◌};
 ghost use Rattle.drafts.specs.Draft.{line_of, zone_in, drafted};

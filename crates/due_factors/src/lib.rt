@@ -1,3 +1,4 @@
+#![tactic(auto)]
 // The factors that are due (document 01, 'The interval sheet'): how many, which is behind k others, and where one stands among them.
 ghost use Rattle.std.specs.Prelude.{◌≡◌, ◌++◌, ◌+◌, ◌≤◌, ◌<◌, length, get_or};
 ghost use Rattle.due_factors.specs.Due.{key, each, run, due_list, no_due, Asked};

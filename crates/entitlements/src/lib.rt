@@ -1,3 +1,4 @@
+#![tactic(auto)]
 // The entitlement list (document 01, 'The interval sheet'), rows 14 and 15.
 ghost use Rattle.std.specs.Prelude.{◌≡◌, false, ◌||◌, ◌+◌, ◌*◌, ◌≤◌, ◌<◌, length};
 ghost use Rattle.rows.specs.Rows.{beyond};

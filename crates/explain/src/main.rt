@@ -1,3 +1,4 @@
+#![tactic(auto)]
 // explain SHEET LIST: tells which record of the sheet refuses it and why, or the reason for the price, of the two files named,
 // or of sheet.bin and entitle.bin. It only reads, calls the proved function and writes; whatever fails is told on standard
 // error.

@@ -1,3 +1,4 @@
+#![tactic(auto)]
 // Which record refuses a sheet, and the reason for the price of an accepted one (document 02, request 7).
 ghost use Rattle.std.specs.Prelude.{◌≡◌, ◌≤◌, length};
 ghost use Rattle.explanation.specs.Explanation.{side_of, part_end, behind_records, part_of, explained};

@@ -1,3 +1,4 @@
+#![tactic(auto)]
 // What the program `explain` prints: which record refuses a sheet and why, or the reason for the price of an accepted one.
 ghost use Rattle.std.specs.Prelude.{◌≡◌, ◌+◌, ◌*◌, ◌≤◌, length};
 ghost use Rattle.io.specs.Counts.{IsPrefixLen};

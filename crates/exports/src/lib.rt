@@ -1,3 +1,4 @@
+#![tactic(auto)]
 // The settlement for C and Rust. Each function only calls the proved one and hands its answer on.
 ghost use Rattle.std.specs.Prelude.{◌≡◌};
 ghost use Rattle.sheet.specs.Sheet.{read_sheet};

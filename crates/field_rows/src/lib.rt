@@ -1,3 +1,4 @@
+#![tactic(auto)]
 // Rows 8, 9 and 11 of an interval sheet: a record's codes and number fields, each by itself.
 ghost use Rattle.std.specs.Prelude.{◌≡◌};
 ghost use Rattle.rows.specs.Rows.{outside, beyond};

@@ -1,3 +1,4 @@
+#![tactic(auto)]
 // Writers of fields. Each fills the front of the buffer that it is lent, and returns how many bytes these are.
 ghost use Rattle.std.specs.Prelude.{◌≡◌, ◌∷◌, [], ◌≤◌, length};
 ghost use Rattle.std.specs.Int.{w16, w32};

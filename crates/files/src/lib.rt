@@ -1,3 +1,4 @@
+#![tactic(auto)]
 // Files read and written whole: all bytes, or a failure, which is told on standard error.
 mod telling;
 

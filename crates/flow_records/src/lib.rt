@@ -1,3 +1,4 @@
+#![tactic(auto)]
 // Writers of a point's, a PAR's and a factor's record. Each fills the front of the buffer that it is lent, and returns how many
 // bytes these are. Read again, the body is the record.
 ghost use Rattle.std.specs.Prelude.{◌≡◌, ◌∷◌, ◌++◌, [], ◌≤◌, length};

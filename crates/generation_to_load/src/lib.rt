@@ -1,3 +1,4 @@
+#![tactic(auto)]
 // The generation-to-load routine in Schedule D's order: loads (5.2), generation (5.3), then the flow (5.4); document 01's steps 1, 2 and 3.
 // It is read beside the schedule: each equation's place and names stand where it is followed. Powers are tenths of a MW, flows watts.
 ghost use Rattle.std.specs.Prelude.{◌≡◌, ◌≤◌, pos, nat_abs, ◌-ℤ◌, ◌*ℤ◌, ◌<ℤ◌};

@@ -1,3 +1,4 @@
+#![tactic(auto)]
 // Writers of a draft's zones and units: the first n of an array, one behind the other from the front of the buffer that is lent;
 // and of the head with both behind it. Each returns how many bytes these are; read again, each body is its record.
 ghost use Rattle.std.specs.Prelude.{◌≡◌, ◌∷◌, ◌++◌, ◌+◌, ◌*◌, ◌≤◌, length, take};

@@ -1,3 +1,4 @@
+#![tactic(auto)]
 // Hours grown from an empty one (document 02, request 1): what an hour's totals are by the intervals that it took.
 ghost use Rattle.grown_hours.specs.Promise.{Promise};
 

@@ -1,3 +1,4 @@
+#![tactic(auto)]
 // hour LIST SHEET..: adds the intervals of the sheets to an hour, in order, each settled against the list; prints each sheet's
 // amount or refusal, and then the hour. It only reads, calls the proved functions and writes; whatever fails is told on
 // standard error.

@@ -1,3 +1,4 @@
+#![tactic(auto)]
 // The cells of an hour (document 02, request 1): how many of them count, and what those come to.
 ghost use Rattle.std.specs.Prelude.{◌≡◌, ◌≤◌};
 ghost use Rattle.hour_cells.specs.Cells.{held, cell, seconds_of, amount_of};

@@ -1,3 +1,4 @@
+#![tactic(auto)]
 // What the program `hour` prints: a line for each sheet, and the lines of the hour.
 ghost use Rattle.std.specs.Prelude.{◌≡◌, ◌*◌, length};
 ghost use Rattle.io.specs.Counts.{IsPrefixLen};

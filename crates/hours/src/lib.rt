@@ -1,3 +1,4 @@
+#![tactic(auto)]
 // Whole hours (document 02, request 1; source 000, section 7.2): intervals of one flowgate and one Monitoring RTO.
 ghost use Rattle.std.specs.Prelude.{◌≡◌, ◌<◌};
 ghost use Rattle.settlement.specs.Settled.{inputs, interval};

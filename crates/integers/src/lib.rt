@@ -1,3 +1,4 @@
+#![tactic(auto)]
 // Whole numbers. The laws that the other crates' proofs use stand in proofs/.
 ghost use Rattle.std.specs.Prelude.{◌≡◌, nat_abs};
 

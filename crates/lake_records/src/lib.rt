@@ -1,3 +1,4 @@
+#![tactic(auto)]
 // Writers of a path's and the circulation's record (document 02, request 6). Each fills the front of the buffer that it is lent, and
 // returns how many bytes these are. Read again, the body is the record.
 ghost use Rattle.std.specs.Prelude.{◌≡◌, ◌∷◌, ◌≤◌, length};

@@ -1,3 +1,4 @@
+#![tactic(auto)]
 // Writers of a draft's paths and circulations: the first n of an array, one behind the other from the front of the buffer that is
 // lent; and of both. Each returns how many bytes these are; read again, each body is its record.
 ghost use Rattle.std.specs.Prelude.{◌≡◌, ◌++◌, ◌+◌, ◌*◌, ◌≤◌, length, take};

@@ -1,3 +1,4 @@
+#![tactic(auto)]
 // Where the records of a sheet stand. The sheet stays as it is: a layout says how many records there are of each kind.
 ghost use Rattle.std.specs.Prelude.{◌≡◌, true, ◌+◌, ◌*◌, ◌≤◌, ◌<◌, ◌^◌, length, drop};
 ghost use Rattle.record_table.specs.Table.{last_kind, kind_of, body_length, body_in};

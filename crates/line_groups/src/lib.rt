@@ -1,3 +1,4 @@
+#![tactic(auto)]
 // Groups of lines of a listing, written from the last to the first.
 ghost use Rattle.std.specs.Prelude.{◌+◌, ◌*◌, ◌≤◌, length};
 ghost use Rattle.writers.specs.inner.Prepended.{Prepended};

@@ -1,3 +1,4 @@
+#![tactic(auto)]
 // The lines of the printed statement, written from the last to the first as the writers ask.
 ghost use Rattle.std.specs.Prelude.{◌+◌, ◌*◌, ◌≤◌, pos, length};
 ghost use Rattle.writers.specs.inner.Prepended.{Prepended};

@@ -1,3 +1,4 @@
+#![tactic(auto)]
 // The printed statement (document 01, 'The printed statement').
 ghost use Rattle.std.specs.Prelude.{◌≡◌, ◌+◌, ◌*◌, ◌≤◌, length};
 ghost use Rattle.io.specs.Counts.{IsPrefixLen};

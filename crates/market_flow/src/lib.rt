@@ -1,3 +1,4 @@
+#![tactic(auto)]
 // Steps 4 to 6, from the flow for a target to the market flow (5.5 to 5.7). Flows are watts.
 ghost use Rattle.std.specs.Prelude.{◌≡◌, ◌<◌, ◌≤◌, nat_abs, ◌+ℤ◌, ◌-ℤ◌};
 ghost use Rattle.sheet.specs.Sheet.{content_of};

@@ -1,3 +1,4 @@
+#![tactic(auto)]
 // What the refusals mean, and the words for the kinds of records, for people.
 ghost use Rattle.std.specs.Prelude.{◌≡◌, ◌+◌, ◌≤◌, length};
 ghost use Rattle.writers.specs.inner.Prepended.{Prepended};

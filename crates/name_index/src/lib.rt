@@ -1,3 +1,4 @@
+#![tactic(auto)]
 // An index of names, so that a repeated name is found without looking at all before it.
 ghost use Rattle.std.specs.Prelude.{◌≡◌, ◌+◌, ◌*◌, ◌≤◌, ◌<◌, length};
 ghost use Rattle.names.specs.Names.{name_at, seen_before};

@@ -1,3 +1,4 @@
+#![tactic(auto)]
 // The payment (document 01, 'The payment'; section 7.2), and refusal 22 on the flow that is paid on.
 ghost use Rattle.std.specs.Prelude.{◌≡◌, ◌≤◌, nat_abs};
 ghost use Rattle.record_rows.specs.inner.Valid.{HeadFits};

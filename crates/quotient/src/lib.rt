@@ -1,3 +1,4 @@
+#![tactic(auto)]
 // The rounded quotient (document 01, 'Units'; document 02, request 2).
 ghost use Rattle.std.specs.Prelude.{◌≡◌, ◌<◌, pos, nat_abs, ◌<ℤ◌};
 ghost use Rattle.quotient.specs.Rounded.{IsRounded, goes_away, quotient, remainder};

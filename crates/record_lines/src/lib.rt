@@ -1,3 +1,4 @@
+#![tactic(auto)]
 // The lines of an offending record, written from the last to the first as the writers ask.
 ghost use Rattle.std.specs.Prelude.{◌+◌, ◌*◌, ◌≤◌, length};
 ghost use Rattle.writers.specs.inner.Prepended.{Prepended};

@@ -1,3 +1,4 @@
+#![tactic(auto)]
 // The number of a record within its kind (document 01: within a kind, records are counted from 1).
 ghost use Rattle.std.specs.Prelude.{◌≡◌, ◌≤◌, cond, eqb};
 ghost use Rattle.record_numbers.specs.RecordNumbers.{record_number};

@@ -1,3 +1,4 @@
+#![tactic(auto)]
 // Rows 2 to 13 and 28 of an interval sheet, by a record's fields and by how many records of each kind there are.
 ghost use Rattle.std.specs.Prelude.{◌≡◌, not};
 ghost use Rattle.rows.specs.Rows.{row};

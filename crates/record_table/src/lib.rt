@@ -1,3 +1,4 @@
+#![tactic(auto)]
 // The table of records of an interval sheet (document 01): kinds, body lengths, how many.
 ghost use Rattle.std.specs.Prelude.{◌≡◌};
 ghost use Rattle.record_table.specs.Table.{body_length, kind_of};

@@ -1,3 +1,4 @@
+#![tactic(auto)]
 // The records of an interval sheet (document 01, 'The interval sheet').
 
 // The Monitoring RTO.

@@ -1,3 +1,4 @@
+#![tactic(auto)]
 // The whole way: a sheet and an entitlement list are settled, and the statement is printed. Refusals 1 to 23.
 ghost use Rattle.std.specs.Prelude.{◌≡◌, length};
 ghost use Rattle.io.specs.Counts.{IsPrefixLen};

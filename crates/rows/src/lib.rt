@@ -1,3 +1,4 @@
+#![tactic(auto)]
 // How the table of refusals is read (document 01, 'Where each refusal is checked').
 ghost use Rattle.std.specs.Prelude.{◌≡◌};
 ghost use Rattle.rows.specs.Rows.{row};

@@ -1,3 +1,4 @@
+#![tactic(auto)]
 // settle SHEET LIST: settles the two files named, or sheet.bin and entitle.bin, and prints the statement or the refusal's
 // line. It only reads, calls the proved function and writes; whatever fails is told on standard error.
 use libc::{STDERR_FILENO, STDOUT_FILENO};

@@ -1,3 +1,4 @@
+#![tactic(auto)]
 // The settlement of one interval, from a sheet and an entitlement list: refusals 1 to 22 and 28.
 ghost use Rattle.std.specs.Prelude.{◌≡◌, ◌≤◌, nat_abs};
 ghost use Rattle.sheet.specs.declared.Outcome.TheVariants.{Accepted};

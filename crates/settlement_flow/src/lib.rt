@@ -1,3 +1,4 @@
+#![tactic(auto)]
 // The settlement flow: the market flow without the lake's circulation (document 02, request 6). Flows are watts.
 ghost use Rattle.std.specs.Prelude.{◌≡◌, ◌<◌, ◌≤◌, nat_abs};
 ghost use Rattle.std.specs.Int.Signed.{le_z};

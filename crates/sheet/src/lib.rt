@@ -1,3 +1,4 @@
+#![tactic(auto)]
 // The interval sheet: read once, and refused by rows 1 to 13 and 28 or accepted with its layout.
 ghost use Rattle.std.specs.Prelude.{◌≡◌, List, ℕ, ◌+◌, ◌*◌, ◌≤◌, ◌<◌, ◌^◌, length, drop, true};
 ghost use Rattle.fields.specs.Fields.{byte_at};

@@ -1,3 +1,4 @@
+#![tactic(auto)]
 // A sheet's draft: its records in arrays, with zeros behind them; and a draft of zeros.
 mod lake;
 

@@ -1,3 +1,4 @@
+#![tactic(auto)]
 // The records of an accepted sheet, read where they stand; those of a kind are counted from 0.
 ghost use Rattle.std.specs.Prelude.{◌≡◌, ◌+◌, ◌<◌};
 ghost use Rattle.records.specs.Content.{head, zone, unit, point, par, path, circulation, factor_for};

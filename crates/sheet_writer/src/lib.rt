@@ -1,3 +1,4 @@
+#![tactic(auto)]
 // The writer of sheets (document 02, requests 3 and 6): a draft as a sheet, or rows 5 to 13, 28, or 27.
 ghost use Rattle.std.specs.Prelude.{◌≡◌, ◌≤◌, length};
 ghost use Rattle.layout.specs.Layout.{layout_of};

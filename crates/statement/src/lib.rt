@@ -1,3 +1,4 @@
+#![tactic(auto)]
 // The statement of one interval (document 01, 'From balance to flow' and 'The payment'; document 02, request 6).
 ghost use Rattle.std.specs.Prelude.{◌≡◌};
 ghost use Rattle.statement.specs.Statement.{refused_as};

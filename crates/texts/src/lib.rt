@@ -1,3 +1,4 @@
+#![tactic(auto)]
 // Texts one behind the other, each ended by a zero byte: a table of words, of which one is written.
 ghost use Rattle.std.specs.Prelude.{◌≡◌, ◌≤◌, length, drop};
 ghost use Rattle.io.specs.Counts.{IsPrefixLen};

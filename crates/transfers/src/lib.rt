@@ -1,3 +1,4 @@
+#![tactic(auto)]
 // Bytes read and written whole by a descriptor: all bytes, or a failure.
 ghost use Rattle.std.specs.Prelude.{ℕ, ◌≤◌, ◌-◌, ◌≡◌, length};
 ghost use Rattle.transfers.specs.Transfer.{after as Transfer·after, Received, Delivered};

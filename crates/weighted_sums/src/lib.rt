@@ -1,3 +1,4 @@
+#![tactic(auto)]
 // The weighted sums of steps 3 to 5: what each record brings, times its factor on a target.
 // What a unit, point or PAR brings stands in its record; a zone brings its zone load, which is lent.
 ghost use Rattle.std.specs.Prelude.{◌≡◌, ◌<◌, ◌≤◌, nat_abs, ◌-ℤ◌};

@@ -1,3 +1,4 @@
+#![tactic(auto)]
 // Writers of bytes, numbers and names. A number's last digit is found first, so a text is written from its end: each writer but
 // the last is lent a buffer with a text from `at` on, puts its bytes before that, and returns where they begin.
 ghost use Rattle.std.specs.Prelude.{◌≡◌, ◌+◌, ◌*◌, ◌≤◌, ◌<◌, [], ◌∷◌, pos, length};

@@ -1,3 +1,4 @@
+#![tactic(auto)]
 // A sheet's powers by zone: loads with losses, outputs, imports or exports, each summed by zone, and one less another zone by zone.
 ghost use Rattle.std.specs.Prelude.{◌≡◌, ◌≤◌, ◌<◌, replicate};
 ghost use Rattle.integers.specs.Sum.{sum_to};
