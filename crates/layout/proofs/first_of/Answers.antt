@@ -9,10 +9,10 @@ use Rattle.layout.proofs.first_of.Goals as goal
 use Rattle.layout.proofs.first_of.Goals.{After-count_of}
 
 -- the kind k ends within the sheet
-sum-next : (c : After-count_of) → c.loop-k.first + c.before.type_size.result * c.count_of.result ≡ first_of c.args.l (c.loop-k.k + 1)
+sum-next : (c : After-count_of) → c.loop-k.first + c.size_of.result * c.count_of.result ≡ first_of c.args.l (c.loop-k.k + 1)
 sum-next c =
     let i = c.loop-k in
-    rw (i.invariant.2, c.before.type_size.ensures.0, c.count_of.ensures) (sym (first_next c.args.l i.k))
+    rw (i.invariant.2, c.size_of.ensures.0, c.count_of.ensures) (sym (first_next c.args.l i.k))
 
 sum-most : (c : After-count_of) → first_of c.args.l (c.loop-k.k + 1) ≤ extent c.args.l
 sum-most c =

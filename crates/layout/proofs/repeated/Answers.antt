@@ -15,12 +15,12 @@ use Rattle.layout.proofs.repeated.Goals.{After-size_of-stride}
 -- the record stands behind the others of its kind
 behind : (c : After-size_of-stride) →
     let a = c.args in
-    a.at ≡ first_of a.l a.kind + c.type_size.result * c.count_of-count.result
-behind c = rw (c.type_size.ensures.0, c.count_of-count.ensures) c.requires.3
+    a.at ≡ first_of a.l a.kind + c.size_of-stride.result * c.count_of-count.result
+behind c = rw (c.size_of-stride.ensures.0, c.count_of-count.ensures) c.requires.3
 
 begins : (c : After-size_of-stride) →
     let a = c.args in
-    a.at - c.type_size.result * c.count_of-count.result + 1 ≡ first_of a.l a.kind + 1
+    a.at - c.size_of-stride.result * c.count_of-count.result + 1 ≡ first_of a.l a.kind + 1
 begins c = omega (arith, behind c)
 
 pub overflow_mul-first : goal.overflow_mul-first
@@ -35,12 +35,11 @@ overflow_sub-base c =
 
 pub seen_before-requires : goal.seen_before-requires
 seen_before-requires c =
-    let behind-here : (let a = c.args in a.at ≡ first_of a.l a.kind + c.type_size.result * c.count_of-count.result) = rw (c.type_size.ensures.0, c.count_of-count.ensures) c.requires.3 in
-    let begins-here : (let a = c.args in a.at - c.type_size.result * c.count_of-count.result + 1 ≡ first_of a.l a.kind + 1) = let behind-here : (let a = c.args in a.at ≡ first_of a.l a.kind + c.type_size.result * c.count_of-count.result) = rw (c.type_size.ensures.0, c.count_of-count.ensures) c.requires.3 in omega (arith, behind-here) in
-    let b = c.before in
+    let behind-here : (let a = c.args in a.at ≡ first_of a.l a.kind + c.size_of-stride.result * c.count_of-count.result) = rw (c.size_of-stride.ensures.0, c.count_of-count.ensures) c.requires.3 in
+    let begins-here : (let a = c.args in a.at - c.size_of-stride.result * c.count_of-count.result + 1 ≡ first_of a.l a.kind + 1) = let behind-here : (let a = c.args in a.at ≡ first_of a.l a.kind + c.size_of-stride.result * c.count_of-count.result) = rw (c.size_of-stride.ensures.0, c.count_of-count.ensures) c.requires.3 in omega (arith, behind-here) in
     let a = c.args in
     let n = c.count_of-count.ensures in
-    let x = b.before.type_size.ensures.0 in
+    let x = c.size_of-stride.ensures.0 in
     let m = rw c.requires.2 at (names_named a.l a.kind c.requires.1) in
     let r = name_room a.kind c.requires.2 in
     let t = c.requires.6 in
@@ -49,11 +48,10 @@ seen_before-requires c =
 
 pub returns : goal.returns
 returns c =
-    let begins-here : (let a = c.args in a.at - c.type_size.result * c.count_of-count.result + 1 ≡ first_of a.l a.kind + 1) = let behind-here : (let a = c.args in a.at ≡ first_of a.l a.kind + c.type_size.result * c.count_of-count.result) = rw (c.type_size.ensures.0, c.count_of-count.ensures) c.requires.3 in omega (arith, behind-here) in
-    let b = c.before.before.before.before in
+    let begins-here : (let a = c.args in a.at - c.size_of-stride.result * c.count_of-count.result + 1 ≡ first_of a.l a.kind + 1) = let behind-here : (let a = c.args in a.at ≡ first_of a.l a.kind + c.size_of-stride.result * c.count_of-count.result) = rw (c.size_of-stride.ensures.0, c.count_of-count.ensures) c.requires.3 in omega (arith, behind-here) in
     let a = c.args in
     let f : length a.table.now ≡ table_size = c.requires.6.full in
-    let e = rw (begins-here, b.before.type_size.ensures.0, c.count_of-count.ensures, c.named_of.ensures.0) at c.seen_before.ensures in
+    let e = rw (begins-here, c.size_of-stride.ensures.0, c.count_of-count.ensures, c.named_of.ensures.0) at c.seen_before.ensures in
     let k = c.requires.2 in (
       e.0 ∙ repeated_at a.s.now a.l a.kind (a.at + 1) c.requires.0 c.requires.1 k,
       listed_next a.s.now a.l a.kind _ c.requires.0 c.requires.1 a.table.now k c.requires.6 (omega (arith, c.named_of.ensures)) (rw k e.1) (search (rules, f)),
