@@ -43,7 +43,7 @@ def source_has(crate, name):
 
 def has_contract(crate, function):
     """Whether a function of a crate has an `ensures` between its name and its body."""
-    head = r"\bfn %s\b(?:(?!\bfn )[\s\S])*?^\s*ensures \{" % re.escape(function)
+    head = r"\bfn %s\b(?:(?!\bfn )[\s\S])*?^\s*ensures\*?(?: \w+)? \{" % re.escape(function)
     return any(re.search(head, text, re.M) for text in sources(crate))
 
 
