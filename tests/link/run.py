@@ -381,9 +381,9 @@ def main():
         faults = planted(text, HEADER_EDITS, declared.header, layout, written, folder)
         faults += planted(rust_text, RUST_EDITS, declared.rust, layout, written, folder)
         with open(os.path.join(ROOT, "crates/report/proofs/Longest.antt")) as file:
-            room = re.search(r"row-23-not-met : .* (\d+) ≤ length out", file.read()).group(1)
+            room = re.search(r"row_23_not_met : .* (\d+) ≤ length out", file.read()).group(1)
         if "#define M2M_LISTING_ROOM %s\n" % room not in text:
-            raise Wrong("M2M_LISTING_ROOM is not what the theorem row-23-not-met has, %s" % room)
+            raise Wrong("M2M_LISTING_ROOM is not what the theorem row_23_not_met has, %s" % room)
     fields = sum(map(len, layout.values()))
     print("sheet S from C; %d fields stand where C, Rust and Python declare them; %d planted faults found" % (fields, faults))
 
