@@ -74,7 +74,7 @@ def missing(reference):
     place, names = parts(reference)
     if FOLDERS_OF_EDITS.fullmatch(place) and names:
         return [str(e.relative_to(ROOT)) for e in edits(place, names) if not e.is_file()]
-    if re.fullmatch(r"\w+/(?:specs|proofs)/[\w/]+\.antt", place):
+    if re.fullmatch(r"\w+/(?:specs|proofs)/[\w/+]+\.antt", place):
         return in_file(ROOT / "crates" / place, names)
     if re.fullmatch(r"\w+\.rs", place):
         return in_file(ROOT / "second" / "tests" / place, names)
