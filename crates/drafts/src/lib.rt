@@ -23,7 +23,7 @@ pub const CIRCULATIONS: usize = record_table::MOST_CIRCULATIONS + 1;
 
 // A point whose place is numbers: a proxy where `line` is 0, else a scheduled line into `zone`.
 #[repr(C)]
-#[derive(Drop)]
+#[derive(Clone, Copy)]
 pub struct DraftPoint {
     pub name: [u8; 16],
     pub sort: u8,

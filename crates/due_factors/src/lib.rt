@@ -7,7 +7,7 @@ ghost use Rattle.due_factors.specs.inner.Places.{Few, every, pars_on, offset, st
 use records::{PAR, POINT, UNIT, ZONE};
 
 // How many zones, units, points and PARs a sheet has.
-#[derive(Drop)]
+#[derive(Clone, Copy)]
 pub struct Counts {
     pub zones: usize,
     pub units: usize,
@@ -16,7 +16,7 @@ pub struct Counts {
 }
 
 // target: 0 the flowgate, k the k-th PAR. index: from 1.
-#[derive(Drop)]
+#[derive(Clone, Copy)]
 pub struct Due {
     pub target: usize,
     pub subject: u8,
@@ -24,7 +24,7 @@ pub struct Due {
 }
 
 // A factor's target, and how many of that target's stand before it.
-#[derive(Drop)]
+#[derive(Clone, Copy)]
 struct Standing {
     target: usize,
     behind: usize,

@@ -10,7 +10,7 @@ ghost use Rattle.entitlements.specs.inner.Steps.{run_of, Roomy, Judged};
 use name_index::Run;
 
 // What the list says of a flowgate: the Non-Monitoring RTO's entitlement in tenths of a MW, or the refusal's number.
-#[derive(Drop)]
+#[derive(Clone, Copy)]
 pub enum Entitlement {
     Found(i64),
     Refused(u8),

@@ -7,7 +7,7 @@ ghost use Rattle.explanation.specs.Promise.{Promise};
 use statement::Statement;
 
 // The reason for the price: the flow paid on is above, below or at the entitlement. A refusal has none.
-#[derive(Drop)]
+#[derive(Clone, Copy)]
 pub enum Reason {
     None,
     Above,
@@ -17,7 +17,7 @@ pub enum Reason {
 
 // The settlement's number, 0 of an accepted interval; where the part of the sheet that holds the offending record begins and
 // ends.
-#[derive(Drop)]
+#[derive(Clone, Copy)]
 pub struct Finding {
     pub refusal: u8,
     pub from: usize,

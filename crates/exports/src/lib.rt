@@ -24,7 +24,7 @@ use statement::Statement;
 
 // What the reader answers: 0 and the counts of an accepted sheet's records, or a refusal's number and the offending record's place.
 #[repr(C)]
-#[derive(Drop)]
+#[derive(Clone, Copy)]
 pub struct ReadAnswer {
     pub refusal: u8,
     pub place: usize,
@@ -39,7 +39,7 @@ pub struct ReadAnswer {
 
 // What the list says of a flowgate: 0 and the entitlement in tenths of a MW, or a refusal's number.
 #[repr(C)]
-#[derive(Drop)]
+#[derive(Clone, Copy)]
 pub struct EntitlementAnswer {
     pub refusal: u8,
     pub value: i64,
@@ -47,7 +47,7 @@ pub struct EntitlementAnswer {
 
 // What an explanation says: the refusal's number or 0, the reason's code, and where the part begins and ends.
 #[repr(C)]
-#[derive(Drop)]
+#[derive(Clone, Copy)]
 pub struct ExplanationAnswer {
     pub refusal: u8,
     pub reason: u8,

@@ -12,7 +12,7 @@ use zone_sums::Ledger;
 
 // 5.2 Compute RTO Load Served by RTO Generation. Step 1.
 // zone_loads has zeros behind the sheet's zones. gross_load is what row 16 judges: loads with losses.
-#[derive(Drop)]
+#[derive(Clone, Copy)]
 pub struct LoadServed {
     pub zone_loads: [i64; 32],
     pub gross_load: i64,
@@ -47,7 +47,7 @@ pub fn loads(s: &[u8], l: layout::Layout) -> LoadServed
 
 // 5.3 Compute RTO Generation Serving RTO Load. Step 2.
 // zone_generation has zeros behind the sheet's zones. gross_output is document 01's G.
-#[derive(Drop)]
+#[derive(Clone, Copy)]
 pub struct GenerationServing {
     pub zone_generation: [i64; 32],
     pub net_generation: i64,
@@ -81,7 +81,7 @@ pub fn generation(s: &[u8], l: layout::Layout) -> GenerationServing
 }
 
 // What the flow takes of the two, beside the zone loads.
-#[derive(Drop)]
+#[derive(Clone, Copy)]
 pub struct Balance {
     pub net_load: i64,
     pub gross_output: i64,
@@ -91,7 +91,7 @@ pub struct Balance {
 
 // 5.4 Compute the RTO GTL for all M2M Flowgates. Step 3, for a target: the flowgate, 0, or a PAR.
 // RTO_GTL = the sum of Gen_Final × (GSF − RTO_LSF). Document 01 rounds two quotients on the way, each after its sum; the remainders are theirs.
-#[derive(Drop)]
+#[derive(Clone, Copy)]
 pub struct GenerationToLoad {
     pub weighted_output: i64,
     pub weighted_load: i64,

@@ -10,7 +10,7 @@ fn print(text: &[u8]) -> bool {
 }
 
 // The hour after a sheet, and whether the sheet's line was printed.
-#[derive(Drop)]
+#[derive(Clone, Copy)]
 struct Told {
     hour: Hour,
     printed: bool,

@@ -22,7 +22,7 @@ pub const SHEET_ROOM: usize = lines::LINE;
 pub const HOUR_ROOM: usize = 4 * lines::LINE;
 
 // The hour after a sheet, and how many bytes of the output buffer are the sheet's line.
-#[derive(Drop)]
+#[derive(Clone, Copy)]
 pub struct Told {
     pub hour: Hour,
     pub length: usize,

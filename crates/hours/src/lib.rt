@@ -29,7 +29,7 @@ pub struct Changed {
 
 // Amount and payments are thousandths of a cent. A payment is positive where the RTO receives it.
 #[repr(C)]
-#[derive(Drop)]
+#[derive(Clone, Copy)]
 pub struct Totals {
     pub seconds: u32,
     pub amount: i64,

@@ -24,7 +24,7 @@ const MOST_NAMED: usize = record_table::MOST_HEADS
 // Of the table of the index: a place for each hash, for each name that is allowed, and for one too many.
 pub const TABLE_SIZE: usize = MASK + 1 + MOST_NAMED + 1;
 
-#[derive(Drop)]
+#[derive(Clone, Copy)]
 pub struct Layout {
     pub heads: usize,
     pub zones: usize,

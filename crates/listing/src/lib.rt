@@ -19,7 +19,7 @@ pub const ROOM: usize = 16 * lines::LINE;
 
 // What printing leaves: the statement after row 23, and how many bytes of the output buffer were printed.
 #[repr(C)]
-#[derive(Drop)]
+#[derive(Clone, Copy)]
 pub struct Printed {
     pub statement: Statement,
     pub length: usize,

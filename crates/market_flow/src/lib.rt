@@ -14,7 +14,7 @@ use records::{COMMON, NON_COMMON, NYISO, PAR, POINT};
 const FLOWGATE: usize = 0;
 
 // gtl, parallel and shadow are the flowgate's; common and noncommon are the redirects.
-#[derive(Drop)]
+#[derive(Clone, Copy)]
 pub struct Flow {
     pub gtl: i64,
     pub first_remainder: i64,

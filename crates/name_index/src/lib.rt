@@ -6,7 +6,7 @@ ghost use Rattle.name_index.specs.inner.Index.{hash_of, hash_at, names_at, place
 
 // Names that stand one behind the other: `count` of them, the first at `first`, each `stride` bytes behind the one before.
 // A table holds them behind `base` others that no longer count; its hashes are up to `mask`.
-#[derive(Drop)]
+#[derive(Clone, Copy)]
 pub struct Run {
     pub first: usize,
     pub stride: usize,

@@ -10,7 +10,7 @@ ghost use Rattle.payment.specs.inner.Payment.{payment_of, Payable};
 use records::Head;
 
 // entitlement: in watts. price: the one taken.
-#[derive(Drop)]
+#[derive(Clone, Copy)]
 pub struct Payment {
     pub entitlement: i64,
     pub price: i64,

@@ -4,7 +4,7 @@ ghost use Rattle.std.specs.Prelude.{◌≡◌, ◌<◌, pos, nat_abs, ◌<ℤ◌
 ghost use Rattle.quotient.specs.Rounded.{IsRounded, goes_away, quotient, remainder};
 ghost use Rattle.quotient.specs.inner.Step.{away, step};
 
-#[derive(Drop)]
+#[derive(Clone, Copy)]
 pub struct Quotient {
     pub quotient: i64,
     pub remainder: i64,

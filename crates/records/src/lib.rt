@@ -22,7 +22,7 @@ pub const PAR: u8 = 4;
 
 // Kind 1. Prices in cents per MWh.
 #[repr(C)]
-#[derive(Drop)]
+#[derive(Clone, Copy)]
 pub struct Head {
     pub name: [u8; 16],
     pub monitoring_rto: u8,
@@ -33,7 +33,7 @@ pub struct Head {
 
 // Kind 2. Powers here and below are tenths of a MW.
 #[repr(C)]
-#[derive(Drop)]
+#[derive(Clone, Copy)]
 pub struct Zone {
     pub name: [u8; 16],
     pub load: u32,
@@ -42,7 +42,7 @@ pub struct Zone {
 
 // Kind 3. zone: the zone's number, from 1.
 #[repr(C)]
-#[derive(Drop)]
+#[derive(Clone, Copy)]
 pub struct Unit {
     pub name: [u8; 16],
     pub zone: u8,
@@ -50,14 +50,14 @@ pub struct Unit {
 }
 
 // A point's place: a proxy, or a scheduled line that ends in the zone of that number.
-#[derive(Drop)]
+#[derive(Clone, Copy)]
 pub enum Place {
     Proxy,
     Line(u8),
 }
 
 // Kind 4. sort: its type. wheel_in, wheel_out: energy that enters at one point and leaves at another (document 02, request 5).
-#[derive(Drop)]
+#[derive(Clone, Copy)]
 pub struct Point {
     pub name: [u8; 16],
     pub sort: u8,
@@ -70,7 +70,7 @@ pub struct Point {
 
 // Kind 5.
 #[repr(C)]
-#[derive(Drop)]
+#[derive(Clone, Copy)]
 pub struct Par {
     pub name: [u8; 16],
     pub class: u8,
@@ -80,7 +80,7 @@ pub struct Par {
 
 // Kind 6. target: 0 the flowgate, k the k-th PAR. Factors are ten-thousandths.
 #[repr(C)]
-#[derive(Drop)]
+#[derive(Clone, Copy)]
 pub struct Factor {
     pub target: u8,
     pub subject: u8,
@@ -90,7 +90,7 @@ pub struct Factor {
 
 // Kind 7. A path between Michigan and Ontario (document 02, request 6). flow: its path market flow.
 #[repr(C)]
-#[derive(Drop)]
+#[derive(Clone, Copy)]
 pub struct Path {
     pub name: [u8; 16],
     pub flow: i32,
@@ -99,7 +99,7 @@ pub struct Path {
 
 // Kind 8. The Lake Erie circulation (document 02, request 6).
 #[repr(C)]
-#[derive(Drop)]
+#[derive(Clone, Copy)]
 pub struct Circulation {
     pub flow: i32,
 }

@@ -13,7 +13,7 @@ use records::Head;
 use statement::Statement;
 
 // What settling an interval answers: the statement with the sheet's seconds and Monitoring RTO.
-#[derive(Drop)]
+#[derive(Clone, Copy)]
 pub struct Interval {
     pub statement: Statement,
     pub seconds: u16,

@@ -24,14 +24,14 @@ use records::bodies;
 const FACTOR_SIZE: usize = FACTOR_BODY + 1;
 
 // The sheet's layout, or the refusal's number and the place where the offending record begins.
-#[derive(Drop)]
+#[derive(Clone, Copy)]
 pub enum Outcome {
     Accepted(Layout),
     Refused(u8, usize),
 }
 
 // A place behind records that pass: how many there are of each kind.
-#[derive(Drop)]
+#[derive(Clone, Copy)]
 struct Reached {
     l: Layout,
     at: usize,

@@ -30,7 +30,7 @@ const ROOM: usize = record_table::HEAD_BODY
 
 // 0 and the sheet's length, or a refusal's number and 0.
 #[repr(C)]
-#[derive(Drop)]
+#[derive(Clone, Copy)]
 pub struct Written {
     pub refusal: u8,
     pub length: usize,

@@ -7,7 +7,7 @@ ghost use Rattle.statement.specs.Statement.{refused_as};
 // and payments are thousandths of a cent. The remainders are those of the generation-to-load flow. has_paths: whether the
 // sheet has paths and the circulation. settled: the settlement flow; without paths it is the market flow.
 #[repr(C)]
-#[derive(Drop)]
+#[derive(Clone, Copy)]
 pub struct Statement {
     pub refusal: u8,
     pub name: [u8; 16],

@@ -14,7 +14,7 @@ const EINTR: u32 = 4;
 const EIO: u32 = 5;
 
 // What one call of read or write came to: so many bytes moved, a signal came before any did, or it failed with errno.
-#[derive(Drop)]
+#[derive(Clone, Copy)]
 pub enum Answer {
     Moved(usize),
     Interrupted,
@@ -22,14 +22,14 @@ pub enum Answer {
 }
 
 // What a transfer came to: so many bytes, and these are all, or none that count, with errno.
-#[derive(Drop)]
+#[derive(Clone, Copy)]
 pub enum Outcome {
     Whole(usize),
     Failed(u32),
 }
 
 // What comes after a call: another, with so many bytes moved, or the outcome.
-#[derive(Drop)]
+#[derive(Clone, Copy)]
 pub enum Step {
     Onward(usize),
     Over(Outcome),

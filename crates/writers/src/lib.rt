@@ -13,7 +13,7 @@ pub fn put_bytes(bytes: &[u8], out: &mut [u8], at: usize) -> usize
     ensures { Prepended bytes.now out.old at out.new result }
 {
     let from = at - bytes.len();
-    bytes::copy(bytes, &mut out[from..]);
+    out[from..at].copy_from_slice(bytes);
     from
 }
 
@@ -126,5 +126,6 @@ pub fn put(bytes: &[u8], out: &mut [u8]) -> usize
     requires { length bytes.now ≤ length out.old }
     ensures { Wrote bytes.now out.old out.new result }
 {
-    bytes::copy(bytes, out)
+    out[..bytes.len()].copy_from_slice(bytes);
+    bytes.len()
 }

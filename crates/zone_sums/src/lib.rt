@@ -9,7 +9,7 @@ ghost use Rattle.zone_sums.specs.declared.Ledger.TheVariants.{Loads, Outputs, Im
 ghost use Rattle.zone_sums.specs.inner.Ledger.{number_of, booking_of, bookings, Sums, Small, amount_at, net_at, total, Held, figure_at};
 
 // What is summed by zone: loads with losses, outputs, imports or exports.
-#[derive(Drop)]
+#[derive(Clone, Copy)]
 pub enum Ledger {
     Loads,
     Outputs,
@@ -18,7 +18,7 @@ pub enum Ledger {
 }
 
 // An amount, and the number at which it is booked: a zone's, or 0 for the proxies.
-#[derive(Drop)]
+#[derive(Clone, Copy)]
 pub struct Booking {
     pub number: usize,
     pub amount: u32,

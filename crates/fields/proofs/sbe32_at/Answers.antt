@@ -7,4 +7,4 @@ use mir.Facts.{to_z-of_z}
 use Rattle.fields.proofs.sbe32_at.Goals as goal
 
 pub returns : goal.returns
-returns c = to_z-of_z {w = w32} {z = c.signed32.result} (record { sfits = c.signed32.type-inv }) ∙ c.signed32.ensures ∙ ap (to_z w32) c.before.be32_at.ensures
+returns c = to_z-of_z {w = w32} {z = c.signed32.result} (record { sfits = c.signed32.type_inv }) ∙ c.signed32.ensures ∙ ap (to_z w32) c.before.be32_at.ensures
