@@ -3,8 +3,8 @@ use mathlib.Core.Path.{◌≡◌, refl, subst}
 use mathlib.Core.List.{List, [], ◌∷◌, ◌++◌, append-nil, append_assoc}
 use Prim.Native.Nat.{ℕ, suc, ◌+◌, ◌-◌, ◌≤◌}
 use native.Mathlib.Omega.{arith}
-use lib.ListN.{length, take, drop, set, length-append, drop_of_length-le}
-use lib.Seq.{take_all, length-take-le, drop_at, drop-drop, set_split}
+use lib.ListN.{length, take, drop, set, length-append, length-drop, drop_of_length-le}
+use lib.Seq.{take-length, take_all, length-take-le, drop_at, drop-drop, set_split}
 use borrow.Rule.Slice.PartMut.{put_mid}
 use Rattle.writers.specs.inner.Prepended.{Prepended}
 
@@ -30,10 +30,25 @@ byte v {p} {xs} {ys} {a} {b} {k} f e room =
       count = omega arith;
     }
 
--- a slice is copied to `out[from..a]`
-pub copied : (p xs ys : List ℕ) (a from : ℕ) → from ≡ a - length p → length p ≤ a → a ≤ length xs → ys ≡ p
+-- a slice is copied to the front of `&mut out[from..]`
+pub copied : {p xs zs : List ℕ} {a from : ℕ} → from ≡ a - length p → length p ≤ a → a ≤ length xs
+    → zs ≡ take (length p) p ++ drop (length p) (take (length xs - from) (drop from xs))
+    → Prepended p xs a (take from xs ++ (zs ++ drop (length xs - from) (drop from xs))) from
+copied {p} {xs} {zs} {a} {from} e short room f =
+    let rest : length (drop from xs) ≡ length xs - from = length-drop from xs in
+    let all : take (length xs - from) (drop from xs) ≡ drop from xs = take_all (length xs - from) (drop from xs) (omega arith) in
+    let none : drop (length xs - from) (drop from xs) ≡ [] = drop_of_length-le (drop from xs) {i = length xs - from} (omega arith) in
+    let cut : length (take from xs) ≡ from = length-take-le from xs (omega arith) in
+    let sum : from + length p ≡ a = omega arith in
+    record {
+      left = rw (drop_at (take from xs) (zs ++ drop (length xs - from) (drop from xs)) from cut, f, all, none, append-nil, take-length p, drop-drop, sum) refl;
+      count = sum;
+    }
+
+-- a slice is stored in `out[from..a]`
+pub stored : (p xs ys : List ℕ) (a from : ℕ) → from ≡ a - length p → length p ≤ a → a ≤ length xs → ys ≡ p
     → Prepended p xs a (put_mid from (a - from) xs ys) from
-copied p xs ys a from e short room f =
+stored p xs ys a from e short room f =
     let cut : length (take from xs) ≡ from = length-take-le from xs (omega arith) in
     let sum : from + (a - from) ≡ a = omega arith in
     record {

@@ -4,7 +4,7 @@ use mathlib.Core.List.{List, [], ◌++◌, append-nil, append_assoc}
 use Prim.Native.Nat.{ℕ, ◌+◌, ◌-◌, ◌≤◌}
 use native.Mathlib.Omega.{arith}
 use lib.ListN.{length, take, drop, length-append, length-drop, drop_of_length-le}
-use lib.Seq.{take_all, take_at, drop_at, drop-drop}
+use lib.Seq.{take-length, take_all, take_at, drop_at, drop-drop}
 use Rattle.io.specs.Counts.{IsPrefixLen}
 use Rattle.io.proofs.Counting.{prefix_len_of_le}
 use Rattle.writers.specs.Written.{written}
@@ -16,9 +16,14 @@ unfolding written
 none = record { left = refl; count = refl }
 
 -- all of a slice is copied
-pub copied : {p xs ys : List ℕ} {n : ℕ} → n ≡ length p → ys ≡ p ++ drop (length p) xs → Wrote p xs ys n
+pub copied : {p xs ys : List ℕ} {n : ℕ} → n ≡ length p → ys ≡ take (length p) p ++ drop (length p) xs → Wrote p xs ys n
 unfolding written
-copied e f = record { left = f; count = e }
+copied {p} e f = record { left = rw (take-length p) at f; count = e }
+
+-- the bytes stand in front
+pub stored : {p xs ys : List ℕ} {n : ℕ} → n ≡ length p → ys ≡ p ++ drop (length p) xs → Wrote p xs ys n
+unfolding written
+stored e f = record { left = f; count = e }
 
 -- the bytes are the buffer's front, and behind them it is as before
 module _ {p xs ys : List ℕ} {n : ℕ} (f : Wrote p xs ys n) where
