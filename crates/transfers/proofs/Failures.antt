@@ -7,7 +7,6 @@ use borrow.Author.Tests.{ltb-true}
 use lib.Dec.{T, eqb}
 use lib.IntN.{ℤ, pos, negsuc, nat_abs}
 use lib.Signed.{mag, lt_z, non_neg}
-use Rattle.transfers.specs.declared.Answer.{Answer}
 use Rattle.transfers.specs.declared.Answer.TheVariants.{Interrupted, Error}
 use Rattle.transfers.specs.inner.Steps.{failed}
 

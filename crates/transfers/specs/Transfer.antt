@@ -1,6 +1,8 @@
--- All bytes or none: what reading and writing come to, by the answers of the calls in order. No contract of the kit says
--- which bytes a call reads or writes, so that the answers are what is known of a call.
-use Rattle.std.specs.Prelude.{ℕ, ◌+◌, ◌-◌, ◌≤◌, ◌≡◌, cond, List, [], ◌∷◌, eqb, ltb}
+-- All bytes or none: what reading and writing come to, by the answers of the calls in order, and by the bytes that the
+-- reader has left and the writer holds, where their types say which those are. No contract of the kit says which bytes a
+-- file of the system gives or takes.
+use Rattle.std.specs.Prelude.{ℕ, ◌+◌, ◌-◌, ◌≤◌, ◌<◌, ◌≡◌, cond, List, [], ◌∷◌, eqb, ltb, length, take, Option}
+use Rattle.std.specs.Io.KnownBytes.{Appends, Consumes, IsAtEnd}
 use Rattle.transfers.specs.declared.Answer.{Answer}
 use Rattle.transfers.specs.declared.Answer.TheVariants.{Moved, Interrupted, Error}
 use Rattle.transfers.specs.declared.Outcome.{Outcome}
@@ -41,3 +43,17 @@ Received room r = Transferred Whole room r
 -- Writing: a call that moves no byte is an error, 5, EIO.
 abbrev pub Delivered : ℕ → Outcome → Type 0
 Delivered room r = Transferred (λ (done : ℕ). Failed 5) room r
+
+-- what a read of a whole input leaves of it: what counts are the bytes that it gave, up to its end or the buffer's
+abbrev pub ReadWhole : Option (List ℕ) → Option (List ℕ) → List ℕ → Outcome → Type 0
+ReadWhole old new buf (Whole n) = Consumes old new (take n buf) × (n < length buf → IsAtEnd new)
+ReadWhole old new buf (Failed error) = Unit {0}
+
+-- the first `done` bytes were written, and not all
+abbrev pub WroteOn : Option (List ℕ) → Option (List ℕ) → List ℕ → ℕ → Type 0
+WroteOn old new bytes done = Appends old new (take done bytes) × (0 < length bytes → done < length bytes)
+
+-- what a write of all bytes leaves of a writer: all of them, or where it failed a beginning
+abbrev pub WroteWhole : Option (List ℕ) → Option (List ℕ) → List ℕ → Outcome → Type 0
+WroteWhole old new bytes (Whole n) = Appends old new bytes × (n ≡ length bytes)
+WroteWhole old new bytes (Failed error) = (done : ℕ) × WroteOn old new bytes done

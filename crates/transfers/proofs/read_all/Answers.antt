@@ -1,33 +1,24 @@
--- `read_all` meets its contract.
-use borrow.Author.Rules.{rules}
-use native.Mathlib.Omega.{arith}
-use Prim.Native.Nat.{ℕ}
-use mathlib.Core.Path.{◌≡◌, refl, sym, subst, ◌∙◌}
-use lib.ListN.{length}
+-- What the answers so far come to, with one more.
+use Rattle.std.proofs.Common.{◌≡◌, ◌∙◌, length, refl, sym, subst, rules}
 use Rattle.transfers.specs.declared.Outcome.TheVariants.{Whole, Failed}
 use Rattle.transfers.specs.Transfer.{Received}
-use Rattle.transfers.proofs.Steps.{Led, begun, onward, over, given_up}
+use Rattle.transfers.proofs.Steps.{Led, onward, over, given_up}
 use Rattle.transfers.proofs.read_all.Goals as goal
 
-pub loop-calls-init : goal.loop-calls-init
-loop-calls-init c = (begun _ _, refl)
+pub returns-in-Over-clause-received : goal.returns-in-Over-clause-received
+returns-in-Over-clause-received g c =
+    let step = c.in-Over.ensures in
+    subst (λ room. Received room c.in-Over.outcome) c.loop.invariant.same_length (over c.loop.invariant.led step.answered step.leads refl)
 
-pub read_step-requires : goal.read_step-requires
-read_step-requires c = c.before.before.loop-calls.invariant.0.within
+pub loop-preserved : goal.loop-preserved
+loop-preserved g c =
+    let step = c.in-Onward.ensures in
+    let same : length c.read_step.new.buf ≡ length c.loop.buf = search rules in
+    record {
+      led = subst (λ room. Led Whole room c.in-Onward.n) (sym same) (onward c.loop.invariant.led step.answered step.leads refl);
+      same_length = same ∙ c.loop.invariant.same_length;
+      bytes = step.bytes _ c.loop.invariant.bytes;
+    }
 
-pub loop-calls-preserved : goal.loop-calls-preserved
-loop-calls-preserved c =
-    let s = c.before.before.before.before.before.before.before.before.loop-calls in
-    let r = c.before.before.before.before.before.Read-step in
-    let same : length r.new.1.0 ≡ length s.buf-1 = search rules in
-    let l = onward s.invariant.0 r.ensures.0 r.ensures.1 c.before.in-Onward.is in
-    (subst (λ (n : ℕ). Led Whole n c.before.in-Onward.n) (sym same) l, same ∙ s.invariant.1)
-
-pub returns-in-Over : goal.returns-in-Over
-returns-in-Over c =
-    let s = c.before.before.before.before.before.before.before.before.loop-calls in
-    let r = c.before.before.before.before.before.Read-step in
-    subst (λ (n : ℕ). Received n c.before.in-Over.outcome) s.invariant.1 (over s.invariant.0 r.ensures.0 r.ensures.1 c.before.in-Over.is)
-
-pub returns : goal.returns
-returns c = let s = c.before.loop-calls in subst (λ (n : ℕ). Received n (Failed 4)) s.invariant.1 (given_up s.invariant.0)
+pub returns-clause-received : goal.returns-clause-received
+returns-clause-received g c = subst (λ room. Received room (Failed 4)) c.loop.invariant.same_length (given_up c.loop.invariant.led)

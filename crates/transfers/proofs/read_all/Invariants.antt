@@ -1,16 +1,13 @@
--- `read_all` meets its contract.
-use borrow.Author.Rules.{rules}
-use native.Mathlib.Omega.{arith}
-use Prim.Native.Nat.{ℕ}
-use mathlib.Core.Path.{◌≡◌, refl, sym, subst, ◌∙◌}
-use lib.ListN.{length}
-use Rattle.transfers.specs.declared.Outcome.TheVariants.{Whole, Failed}
-use Rattle.transfers.specs.Transfer.{Received}
-use Rattle.transfers.proofs.Steps.{Led, begun, onward, over, given_up}
+-- What the steps so far come to: by the answers of their calls, and by the bytes.
+use Rattle.std.proofs.Common.{◌≡◌, length}
+use Rattle.transfers.specs.declared.Outcome.TheVariants.{Whole}
+use Rattle.transfers.specs.inner.Steps.{ReadOn}
+use Rattle.transfers.proofs.Steps.{Led}
 use Rattle.transfers.proofs.read_all.Given as goal
 
-abbrev pub invariant-loop-calls : goal.invariant-loop-calls
-invariant-loop-calls l = Led Whole (length l.buf) l.done × (length l.buf ≡ length l.initial.buf)
-
-abbrev pub decreases-loop-calls : goal.decreases-loop-calls
-decreases-loop-calls l = l.calls
+abbrev pub invariant-loop : goal.invariant-loop
+invariant-loop g l = record {
+  led : Led Whole (length l.buf) l.done;
+  same_length : length l.buf ≡ length l.initial.buf;
+  bytes : ReadOn (g.R.Read.remaining l.initial.reader) (g.R.Read.remaining l.reader) l.buf l.done;
+}

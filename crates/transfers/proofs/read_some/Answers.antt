@@ -1,7 +1,9 @@
--- `read_some` meets its contract.
-use borrow.Author.Rules.{rules}
-use lib.ListN.{length}
+-- What a read that failed came to.
+use Rattle.transfers.proofs.Bytes.{gives_none}
 use Rattle.transfers.proofs.read_some.Goals as goal
 
-pub returns-then-got-lt0 : goal.returns-then-got-lt0
-returns-then-got-lt0 c = c.failure.ensures.1 (length c.before.before.before.before.before.before.before.before.args.part.now)
+pub returns-in-Err-clause-moves : goal.returns-in-Err-clause-moves
+returns-in-Err-clause-moves g c = c.refusal.ensures.moves _
+
+pub returns-in-Err-clause-gives : goal.returns-in-Err-clause-gives
+returns-in-Err-clause-gives g c = gives_none _ _ _ _ c.refusal.ensures.none c.in-Err.ensures.bytes

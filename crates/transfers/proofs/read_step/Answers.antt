@@ -1,18 +1,12 @@
--- `read_step` meets its contract.
-use borrow.Author.Rules.{rules}
-use Prim.Native.Nat.{zero-le}
-use lib.ListN.{length}
-use Rattle.transfers.specs.declared.Outcome.TheVariants.{Whole, Failed}
-use Rattle.transfers.proofs.Steps.{leads, of_part}
+-- What a step of reading did to the bytes.
+use Rattle.std.proofs.Common.{subst, sym}
+use Rattle.transfers.specs.inner.Steps.{ReadLeads}
+use Rattle.transfers.proofs.Bytes.{reads}
+use Rattle.transfers.proofs.Steps.{of_part}
 use Rattle.transfers.proofs.read_step.Goals as goal
 
-pub after-requires : goal.after-requires
-after-requires c = let s = c.before.before.before.before.before in (s.requires, of_part s.args.buf.now s.args.done c.before.before.read_Some.result c.before.before.read_Some.ensures)
-
-pub returns : goal.returns
-returns c =
-    let s = c.before.before.before.before.before.before in
-    let a = c.before.before.before.read_Some in (
-      record { answer = a.result; moves = of_part s.args.buf.now s.args.done a.result a.ensures; step = c.after.ensures },
-      rw c.after.ensures (leads a.result s.args.done (length s.args.buf.now) (Whole s.args.done) s.requires s.requires),
-    )
+pub returns-clause-bytes : goal.returns-clause-bytes
+returns-clause-bytes g c first on =
+    let answer = c.read_some-answer in
+    let moves = of_part c.args.buf.now c.args.done answer.result answer.ensures.moves in
+    subst (ReadLeads _ _ _) (sym c.after.ensures) (reads first _ _ c.args.buf.now answer.new.part c.args.done answer.result c.requires answer.auto.part moves answer.ensures.gives on)

@@ -1,22 +1,18 @@
--- `write_all` meets its contract.
-use Prim.Native.Nat.{ℕ}
-use lib.ListN.{length}
-use Rattle.transfers.specs.declared.Outcome.TheVariants.{Failed}
-use Rattle.transfers.proofs.Steps.{Led, begun, onward, over, given_up}
-use borrow.Author.Rules.{rules}
+-- What the answers so far come to, with one more.
+use Rattle.std.proofs.Common.{refl}
+use Rattle.transfers.proofs.Steps.{onward, over, given_up}
 use Rattle.transfers.proofs.write_all.Goals as goal
 
-pub loop-calls-init : goal.loop-calls-init
-loop-calls-init c = begun _ _
+pub returns-in-Over-clause-delivered : goal.returns-in-Over-clause-delivered
+returns-in-Over-clause-delivered g c = let step = c.in-Over.ensures in over c.loop.invariant.led step.answered step.leads refl
 
-pub write_step-requires : goal.write_step-requires
-write_step-requires c = c.before.loop-calls.invariant.within
+pub loop-preserved : goal.loop-preserved
+loop-preserved g c =
+    let step = c.in-Onward.ensures in
+    record {
+      led = onward c.loop.invariant.led step.answered step.leads refl;
+      bytes = step.bytes _ c.loop.invariant.bytes;
+    }
 
-pub loop-calls-preserved : goal.loop-calls-preserved
-loop-calls-preserved c = let r = c.before.before.before.write_step in onward c.before.before.before.before.before.loop-calls.invariant r.ensures.0 r.ensures.1 c.before.in-Onward.is
-
-pub returns-in-Over : goal.returns-in-Over
-returns-in-Over c = let r = c.before.before.before.write_step in over c.before.before.before.before.before.loop-calls.invariant r.ensures.0 r.ensures.1 c.before.in-Over.is
-
-pub returns : goal.returns
-returns c = given_up c.before.loop-calls.invariant
+pub returns-clause-delivered : goal.returns-clause-delivered
+returns-clause-delivered g c = given_up c.loop.invariant.led

@@ -1,13 +1,12 @@
--- `write_all` meets its contract.
-use Prim.Native.Nat.{ℕ}
-use lib.ListN.{length}
+-- What the steps so far come to: by the answers of their calls, and by the bytes.
+use Rattle.std.proofs.Common.{ℕ, length}
 use Rattle.transfers.specs.declared.Outcome.TheVariants.{Failed}
-use Rattle.transfers.proofs.Steps.{Led, begun, onward, over, given_up}
-use borrow.Author.Rules.{rules}
+use Rattle.transfers.specs.Transfer.{WroteOn}
+use Rattle.transfers.proofs.Steps.{Led}
 use Rattle.transfers.proofs.write_all.Given as goal
 
-abbrev pub invariant-loop-calls : goal.invariant-loop-calls
-invariant-loop-calls l = Led (λ (n : ℕ). Failed 5) (length l.bytes) l.done
-
-abbrev pub decreases-loop-calls : goal.decreases-loop-calls
-decreases-loop-calls l = l.calls
+abbrev pub invariant-loop : goal.invariant-loop
+invariant-loop g l = record {
+  led : Led (λ (n : ℕ). Failed 5) (length l.bytes) l.done;
+  bytes : WroteOn (g.W.Write.contents l.initial.writer) (g.W.Write.contents l.writer) l.bytes l.done;
+}

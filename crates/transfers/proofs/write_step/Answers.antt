@@ -1,18 +1,13 @@
--- `write_step` meets its contract.
-use borrow.Author.Rules.{rules}
-use Prim.Native.Nat.{zero-le}
-use lib.ListN.{length}
-use Rattle.transfers.specs.declared.Outcome.TheVariants.{Whole, Failed}
-use Rattle.transfers.proofs.Steps.{leads, of_part}
+-- What a step of writing did to the bytes.
+use Rattle.std.proofs.Common.{subst, sym}
+use Rattle.std.proofs.lemmas.List.{take_rest}
+use Rattle.transfers.specs.inner.Steps.{WriteLeads}
+use Rattle.transfers.proofs.Bytes.{writes}
+use Rattle.transfers.proofs.Steps.{of_part}
 use Rattle.transfers.proofs.write_step.Goals as goal
 
-pub after-requires : goal.after-requires
-after-requires c = let s = c.before.before.before in (s.requires, of_part s.args.bytes.now s.args.done c.write_some-answer.result c.write_some-answer.ensures)
-
-pub returns : goal.returns
-returns c =
-    let s = c.before.before.before.before in
-    let a = c.before.write_some-answer in (
-      record { answer = a.result; moves = of_part s.args.bytes.now s.args.done a.result a.ensures; step = c.after.ensures },
-      rw c.after.ensures (leads a.result s.args.done (length s.args.bytes.now) (Failed 5) s.requires zero-le),
-    )
+pub returns-clause-bytes : goal.returns-clause-bytes
+returns-clause-bytes g c first on =
+    let answer = c.write_some-answer in
+    let moves = of_part c.args.bytes.now c.args.done answer.result answer.ensures.moves in
+    subst (WriteLeads _ _ _) (sym c.after.ensures) (writes first _ _ c.args.bytes.now _ c.args.done _ answer.result c.requires (take_rest c.args.bytes.now c.args.done) moves answer.ensures.takes on)

@@ -15,10 +15,10 @@ few : (s : Start) → s.args.z < 32
 few s = omega (arith, s.requires.2, (counts _ _ s.requires.0.accepted).zones, (valid _ _ s.requires.0.accepted).zones_most)
 
 pub offset_bounds-zone_loads-z : goal.offset_bounds-zone_loads-z
-offset_bounds-zone_loads-z c = omega (arith, few c.before)
+offset_bounds-zone_loads-z c = omega (arith, few c.before.before)
 
 pub bounds-zone_loads-z : goal.bounds-zone_loads-z
-bounds-zone_loads-z c = few c.before
+bounds-zone_loads-z c = few c.before.before
 
 pub factor_at-factor-requires : goal.factor_at-factor-requires
 factor_at-factor-requires c =
@@ -27,7 +27,7 @@ factor_at-factor-requires c =
 
 product : (c : After-factor_at-factor) →
     let a = c.args in
-    Op (rd (get_or a.zone-loads.now a.z (pos 0)) *ℤ rd c.factor_at-factor.result) (load_term (content_of a.s.now) a.target a.z) 104000000000
+    Op (rd (get_or a.zone_loads.now a.z (pos 0)) *ℤ rd c.factor_at-factor.result) (load_term (content_of a.s.now) a.target a.z) 104000000000
 product c =
     let p = c.requires in
     load_term_lem p.0 _ _ p.1 p.2 _ c.factor_at-factor.ensures

@@ -1,3 +1,4 @@
+use mir.Syntax.{w64}
 -- `par_power` meets its contract.
 use Prim.Native.Nat.{◌≤◌}
 use mathlib.Core.Path.{◌≡◌, ap, ◌∙◌}
@@ -29,4 +30,4 @@ pub returns : goal.returns
 unfolding power_of
 returns c =
     let returned-here : (let a = c.args in c.over_target.result ≡ power (par (content_of a.s.now) a.i)) = c.over_target.ensures ∙ ap power c.par_at-p.ensures in
-    to_z-of_z (record { sfits = c.tenfold_in.type_inv }) ∙ c.tenfold_in.ensures ∙ rw c.par_at-p.ensures (tenfold_is returned-here (within c.before.before.before.before.before) _ c.args.class)
+    to_z-of_z {w = w64} (record { sfits = c.tenfold_in.type_inv }) ∙ c.tenfold_in.ensures ∙ rw c.par_at-p.ensures (tenfold_is returned-here (within c.before.before.before.before.before) _ c.args.class)

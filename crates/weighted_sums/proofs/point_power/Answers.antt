@@ -1,3 +1,4 @@
+use mir.Syntax.{w64}
 -- `point_power` meets its contract.
 use Prim.Native.Nat.{◌≤◌}
 use mathlib.Core.Path.{◌≡◌, ap, ◌∙◌}
@@ -31,4 +32,4 @@ pub returns : goal.returns
 unfolding power_of
 returns c =
     let returned-here : (let a = c.args in c.net_schedule.result ≡ power (point (content_of a.s.now) a.i)) = c.net_schedule.ensures ∙ ap power c.point_at-p.ensures in
-    to_z-of_z (record { sfits = c.tenfold_in.type_inv }) ∙ c.tenfold_in.ensures ∙ rw c.point_at-p.ensures (tenfold_is returned-here (within c.before.before.before.before.before) _ c.args.class)
+    to_z-of_z {w = w64} (record { sfits = c.tenfold_in.type_inv }) ∙ c.tenfold_in.ensures ∙ rw c.point_at-p.ensures (tenfold_is returned-here (within c.before.before.before.before.before) _ c.args.class)

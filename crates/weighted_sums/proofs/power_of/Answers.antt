@@ -1,3 +1,4 @@
+use mir.Syntax.{w64}
 -- `power_of` meets its contract.
 use mathlib.Core.Path.{sym, ap, ◌∙◌}
 use borrow.Author.Tests.{eq-eqb, ne_eqb}
@@ -14,7 +15,7 @@ unit_power-requires c =
 
 pub returns-then-subject-eq-UNIT : goal.returns-then-subject-eq-UNIT
 returns-then-subject-eq-UNIT c =
-    to_z-of_z (record { sfits = c.unit_power.type_inv }) ∙ c.unit_power.ensures ∙ ap (λ n. power_of (content_of c.args.s.now) n c.args.class c.args.i) (sym c.if-subject-eq-UNIT.true)
+    to_z-of_z {w = w64} (record { sfits = c.unit_power.type_inv }) ∙ c.unit_power.ensures ∙ ap (λ n. power_of (content_of c.args.s.now) n c.args.class c.args.i) (sym c.if-subject-eq-UNIT.true)
 
 pub point_power-requires : goal.point_power-requires
 unfolding how_many
@@ -23,7 +24,7 @@ point_power-requires c =
 
 pub returns-then-subject-eq-POINT : goal.returns-then-subject-eq-POINT
 returns-then-subject-eq-POINT c =
-    to_z-of_z (record { sfits = c.point_power.type_inv }) ∙ c.point_power.ensures ∙ ap (λ n. power_of (content_of c.args.s.now) n c.args.class c.args.i) (sym c.if-subject-eq-POINT.true)
+    to_z-of_z {w = w64} (record { sfits = c.point_power.type_inv }) ∙ c.point_power.ensures ∙ ap (λ n. power_of (content_of c.args.s.now) n c.args.class c.args.i) (sym c.if-subject-eq-POINT.true)
 
 pub par_power-requires : goal.par_power-requires
 unfolding how_many
@@ -32,4 +33,4 @@ par_power-requires c =
 
 pub returns : goal.returns
 unfolding power_of
-returns c = rw (ne_eqb _ _ c.if-subject-eq-UNIT.false, ne_eqb _ _ c.if-subject-eq-POINT.false) (to_z-of_z (record { sfits = c.par_power.type_inv }) ∙ c.par_power.ensures)
+returns c = rw (ne_eqb _ _ c.if-subject-eq-UNIT.false, ne_eqb _ _ c.if-subject-eq-POINT.false) (to_z-of_z {w = w64} (record { sfits = c.par_power.type_inv }) ∙ c.par_power.ensures)

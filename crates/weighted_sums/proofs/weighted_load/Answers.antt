@@ -28,7 +28,7 @@ step c =
     let a = c.args in
     next (load_term (content_of a.s.now) a.target) 104000000000 a.l.zones c.loop-z.z
     (λ k l. load_term_within c.requires.0 a.target k c.requires.1 l)
-    (omega (arith, few p)) c.loop-z-test.true c.loop-z.invariant.1 c.load_term-sum.ensures
+    (omega (arith, few p.before)) c.loop-z-test.true c.loop-z.invariant.1 c.load_term-sum.ensures
 
 pub loop-z-init : goal.loop-z-init
 loop-z-init c = (omega arith, sym (sum_zero _))
@@ -40,7 +40,7 @@ pub overflow_add-sum : goal.overflow_add-sum
 overflow_add-sum c = (step c).fits
 
 pub overflow_add-z : goal.overflow_add-z
-overflow_add-z c = omega (arith, few c.before.before.before.before)
+overflow_add-z c = omega (arith, few c.before.before.before.before.before)
 
 pub loop-z-smaller : goal.loop-z-smaller
 loop-z-smaller c = omega arith
