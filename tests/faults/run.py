@@ -91,7 +91,6 @@ def writing(run):
     run.put()
     for number in (errno.EIO, errno.ENOSPC, errno.EPIPE, errno.EFBIG, errno.EDQUOT):
         same(run("write:1:%d" % number), b"", told("standard output", number), of=why(number))
-        same(run("close:3:%d" % number), prints.accepted, told("standard output", number), of="closing: %s" % why(number))
     for k in range(1, len(prints.accepted)):
         faults = "write:1:short=%d write:2:28" % k
         same(run(faults), prints.accepted[:k], told("standard output", errno.ENOSPC), of="the output, behind byte %d" % k)
