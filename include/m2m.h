@@ -2,7 +2,7 @@
  * The market-to-market settlement of one flowgate and one interval (document 01), of whole hours, the writer of sheets,
  * and which record a refusal means (document 02, requests 1, 3, 5, 6 and 7), for C and C++.
  *
- *   rt staticlib exports                                        writes target/staticlib/libexports.a
+ *   tools/build exports                                         writes target/staticlib/libexports.a
  *   cc -Iinclude my.c target/staticlib/libexports.a -o my
  *   tools/shared-library                                        writes target/m2m/libm2m.so
  *

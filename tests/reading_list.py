@@ -11,6 +11,10 @@ import sys
 from pathlib import Path
 
 ROOT = Path(__file__).resolve().parent.parent
+C_FUNCTIONS = (
+    "settle", "report", "read", "entitlement", "hour_open", "hour_add", "hour_totals", "read_draft", "write_draft",
+    "explain",
+)
 ENTRY_POINTS = [
     ("settlement", "settle"),
     ("settlement", "settle_interval"),
@@ -46,18 +50,20 @@ ENTRY_POINTS = [
     ("explanation", "explain"),
     ("explanation_report", "write_explanation"),
     ("exports", "m2m_explain"),
+    *(("exports_c", f"m2m_{name}") for name in C_FUNCTIONS),
     ("transfers", "read_all"),
     ("transfers", "write_all"),
     ("files", "load"),
     ("files", "send"),
 ]
-OF_CRATE = re.compile(r"Rattle·(\w+)(?:·specs)?\.specs\.([\w.\-]+?)\.\{([^}]*)\}")
+OF_CRATE = re.compile(r"\buse Rattle\.(\w+)\.specs\.([\w.']+?)(?:\.\{([^}]*)\}| as (\S+?))?;?$", re.M)
 
 
 def imports(text):
-    """(crate, module path, names) of each import from a crate's specs."""
-    for crate, module, names in OF_CRATE.findall(text):
-        yield crate, module, [n.strip() for n in names.split(",")]
+    """(crate, module path, names) of each import from a crate's specs, the names as they are used here."""
+    for crate, module, names, alias in OF_CRATE.findall(text):
+        items = names.split(",") if names else [alias or module.split(".")[-1]]
+        yield crate, module, [item.split(" as ")[-1].strip() for item in items]
 
 
 def spec_file(crate, module):
@@ -73,7 +79,7 @@ def contract(crate, function):
         text = source.read_text(encoding="utf-8")
         found = re.search(r"^\s*pub (?:extern \"C\" )?fn %s\b.*?^\s*\{$" % function, text, re.M | re.S)
         if found:
-            return text, set(re.findall(r"[^\s(){}⌜⌝,;]+", found.group(0)))
+            return text, set(re.findall(r"[^\s(){},;]+", found.group(0)))
     sys.exit(f"reading list: no public function {crate}::{function}")
 
 
@@ -111,7 +117,7 @@ def lines(path):
     return sum(
         1
         for line in (ROOT / path).read_text(encoding="utf-8").splitlines()
-        if line.strip() and not line.startswith("use ") and not line.strip().startswith("--")
+        if line.strip() and not re.match(r"(?:pub )?use ", line) and not line.strip().startswith("--")
     )
 
 

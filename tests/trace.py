@@ -43,7 +43,7 @@ def source_has(crate, name):
 
 def has_contract(crate, function):
     """Whether a function of a crate has an `ensures` between its name and its body."""
-    head = r"\bfn %s\b(?:(?!\bfn )[\s\S])*?^\s*ensures \{" % re.escape(function)
+    head = r"\bfn %s\b(?:(?!\bfn )[\s\S])*?^\s*ensures\*?(?: \w+)? \{" % re.escape(function)
     return any(re.search(head, text, re.M) for text in sources(crate))
 
 
@@ -74,7 +74,7 @@ def missing(reference):
     place, names = parts(reference)
     if FOLDERS_OF_EDITS.fullmatch(place) and names:
         return [str(e.relative_to(ROOT)) for e in edits(place, names) if not e.is_file()]
-    if re.fullmatch(r"\w+/(?:specs|proofs)/[\w/]+\.antt", place):
+    if re.fullmatch(r"\w+/(?:specs|proofs)/[\w/+]+\.antt", place):
         return in_file(ROOT / "crates" / place, names)
     if re.fullmatch(r"\w+\.rs", place):
         return in_file(ROOT / "second" / "tests" / place, names)

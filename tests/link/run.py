@@ -264,6 +264,19 @@ def swapped(text, one, other):
     return "".join({one: other, other: one}.get(part, part) for part in parts)
 
 
+def called(text):
+    """What the archive calls of the C library; the header names it."""
+    told = " ".join(re.search(r"calls nothing but (.*?), so", text, re.S).group(1).replace("*", " ").split())
+    listed = said("nm", "--format=posix", "--undefined-only", ARCHIVE)
+    calls = {line.split()[0] for line in listed.splitlines() if " U" in line}
+    if calls - set(told.split(" and ")):
+        raise Wrong("the archive calls %s, and the header says %s" % (sorted(calls), told))
+    names = said("nm", "--format=posix", "--defined-only", "--extern-only", ARCHIVE)
+    defined = {line.split()[0] for line in names.splitlines() if " T " in line}
+    if defined != set(FUNCTIONS):
+        raise Wrong("the archive defines %s" % sorted(defined ^ set(FUNCTIONS)))
+
+
 def planted(text, edits, layout_of, layout, written, folder):
     for edit in edits:
         wrong = swapped(text, *edit) if edit[0].isidentifier() else text.replace(*edit, 1)
@@ -378,12 +391,13 @@ def main():
         hold(declared.header(FUNCTIONS, text, folder), layout, written)
         hold(declared.rust(FUNCTIONS, rust_text, folder), layout, written)
         hold(declared.python(), layout, written)
+        called(text)
         faults = planted(text, HEADER_EDITS, declared.header, layout, written, folder)
         faults += planted(rust_text, RUST_EDITS, declared.rust, layout, written, folder)
         with open(os.path.join(ROOT, "crates/report/proofs/Longest.antt")) as file:
-            room = re.search(r"row-23-not-met : .* (\d+) ≤ length out", file.read()).group(1)
+            room = re.search(r"row_23_not_met : .* (\d+) ≤ length out", file.read()).group(1)
         if "#define M2M_LISTING_ROOM %s\n" % room not in text:
-            raise Wrong("M2M_LISTING_ROOM is not what the theorem row-23-not-met has, %s" % room)
+            raise Wrong("M2M_LISTING_ROOM is not what the theorem row_23_not_met has, %s" % room)
     fields = sum(map(len, layout.values()))
     print("sheet S from C; %d fields stand where C, Rust and Python declare them; %d planted faults found" % (fields, faults))
 

@@ -1,7 +1,7 @@
 """The proved library as a shared object, brought up to date before each use.
 
-tools/shared-library asks `rt check` every time (it answers within a second where nothing has
-changed), so a changed source never runs an old library.
+tools/shared-library looks every time whether a source has changed (that takes a second), so a changed source
+never runs an old library.
 """
 
 import os

@@ -1,4 +1,4 @@
-"""The library is made when it must be and only then: tools/shared-library with stand-ins for rt and cc."""
+"""The library is made when it must be and only then: tools/shared-library and tools/build with stand-ins for rt and cc."""
 
 import os
 import shutil
@@ -10,24 +10,26 @@ import unittest
 from common import ROOT, SAMPLE, TOOL
 
 RT = """#!/bin/sh
-# Two crates; the stamp is the source's sum, as the kit's own.
-mkdir -p target/stamp target/staticlib
-sum=$(cksum <source)
-case "$1 $(cat target/stamp/exports 2>/dev/null)" in
-"check $sum") echo "rt: one proved (unchanged since it was last proved)"; exit ;;
-check*)
-    echo "rt: one proved (unchanged since it was last proved)"
-    if grep -q wrong source; then echo "rt: exports NOT PROVED (exit 1, 2 s)"; exit 1; fi
-    echo "$sum" >target/stamp/exports
-    echo "rt: exports proved (3 s)" ;;
+# Two crates, of which one changes. The archive is the source.
+case "$1 ${PWD##*/}" in
+"version "*) echo "rattle-kit" ;;
+"lib exports_c")
+    echo "crate one: modules loaded=70 checked=0"
+    echo "logic=proved functions=2"
+    echo "crate exports_c: modules loaded=8 checked=70"
+    if grep -q wrong src/lib.rt; then echo "note: it is not proved"; echo "logic=not-proved"; exit 1; fi
+    echo "axioms libc: none"
+    echo "logic=proved functions=10"
+    mkdir -p out && cp src/lib.rt out/libexports_c.a
+    echo "$*" >>../../calls ;;
+*) echo "unknown: $*"; exit 2 ;;
 esac
-echo "$*" >>calls
 """
 CC = """#!/bin/sh
 while [ "$1" != -o ]; do shift; done
-cp source "$2"
+cp target/staticlib/libexports.a "$2"
 """
-FIRST = "The first time every proof is checked, which takes some minutes; after that a second is enough."
+FIRST = "The first time every proof is checked, which takes a while; after that a second is enough."
 
 
 class Build(unittest.TestCase):
@@ -35,7 +37,10 @@ class Build(unittest.TestCase):
         self.folder = tempfile.mkdtemp()
         self.addCleanup(shutil.rmtree, self.folder)
         os.mkdir(os.path.join(self.folder, "tools"))
-        shutil.copy(os.path.join(ROOT, "tools", "shared-library"), os.path.join(self.folder, "tools"))
+        os.makedirs(os.path.join(self.folder, "crates", "exports_c", "src"))
+        self.write("crates.txt", "exports_c staticlib:\n")
+        for tool in ("build", "shared-library"):
+            shutil.copy(os.path.join(ROOT, "tools", tool), os.path.join(self.folder, "tools"))
         for name, script in (("rt", RT), ("cc", CC)):
             self.write(name, script)
             os.chmod(os.path.join(self.folder, name), 0o755)
@@ -49,7 +54,7 @@ class Build(unittest.TestCase):
             return file.read()
 
     def make(self, source):
-        self.write("source", source)
+        self.write("crates/exports_c/src/lib.rt", source)
         path = self.folder + os.pathsep + os.environ["PATH"]
         return subprocess.run(
             ["tools/shared-library"], cwd=self.folder, env={"PATH": path, "CC": "cc"},
@@ -58,21 +63,22 @@ class Build(unittest.TestCase):
 
     def test_a_changed_source_never_runs_an_old_library(self):
         for source, said in (
-            ("one", [FIRST, "proved exports (3 s)", "making the library"]),
+            ("one", [FIRST, "proved exports_c", "making the library"]),
             ("one", []),
-            ("two", ["proved exports (3 s)", "making the library"]),
+            ("two", ["proved exports_c", "making the library"]),
             ("two", []),
         ):
             made = self.make(source)
             self.assertEqual((made.returncode, made.stdout), (0, ""), made.stderr)
             self.assertEqual(made.stderr.splitlines(), said)
             self.assertEqual(self.read("target/m2m/libm2m.so"), source)
+        self.assertEqual(self.read("calls"), "lib\n" * 2)
 
     def test_what_is_not_proved_is_told(self):
         self.make("one")
         made = self.make("wrong")
         self.assertNotEqual(made.returncode, 0)
-        self.assertIn("exports NOT PROVED", made.stderr)
+        self.assertIn("it is not proved", made.stderr)
 
     def test_without_the_kit(self):
         command = [sys.executable, TOOL, "settle", SAMPLE]

@@ -1,5 +1,6 @@
 #![tactic(auto)]
-// The settlement for C and Rust. Each function only calls the proved one and hands its answer on.
+// The settlement for C and Rust: what `exports_c` hands to C. Each function only calls the proved one and hands its
+// answer on.
 ghost use Rattle.std.specs.Prelude.{◌≡◌};
 ghost use Rattle.sheet.specs.Sheet.{read_sheet};
 ghost use Rattle.entitlements.specs.Entitlements.{entitlement};
@@ -7,10 +8,10 @@ ghost use Rattle.settlement.specs.Settled.{inputs, interval};
 ghost use Rattle.settlement.specs.Promise.{Promise};
 ghost use Rattle.report.specs.Report.{reported, left};
 ghost use Rattle.hours.specs.Hour.{opened, added};
-ghost use Rattle.grown_hours.specs.Promise.{Promise as Hour-as-Promise};
+ghost use Rattle.grown_hours.specs.Promise.{Promise as HourPromise};
 ghost use Rattle.drafts.specs.Draft.{given};
 ghost use Rattle.draft_reader.specs.DraftReader.{drafted_from};
-ghost use Rattle.sheet_writer.specs.Promise.{Promise as Sheet-as-Promise};
+ghost use Rattle.sheet_writer.specs.Promise.{Promise as SheetPromise};
 ghost use Rattle.explanation.specs.Explanation.{explained};
 ghost use Rattle.exports.specs.Answers.{read_answer, entitlement_answer, reason_code, explanation_answer};
 
@@ -55,23 +56,20 @@ pub struct ExplanationAnswer {
     pub to: usize,
 }
 
-#[unsafe(no_mangle)]
-pub extern "C" fn m2m_settle(sheet: &[u8], list: &[u8]) -> Statement
+pub fn m2m_settle(sheet: &[u8], list: &[u8]) -> Statement
     ensures { Promise sheet.now list.now result }
 {
     settlement::settle(sheet, list)
 }
 
-#[unsafe(no_mangle)]
-pub extern "C" fn m2m_report(sheet: &[u8], list: &[u8], out: &mut [u8]) -> Printed
+pub fn m2m_report(sheet: &[u8], list: &[u8], out: &mut [u8]) -> Printed
     ensures value { result ≡ reported sheet.now list.now out.old }
     ensures out_after { out.new ≡ left sheet.now list.now out.old }
 {
     report::report(sheet, list, out)
 }
 
-#[unsafe(no_mangle)]
-pub extern "C" fn m2m_read(sheet: &[u8]) -> ReadAnswer
+pub fn m2m_read(sheet: &[u8]) -> ReadAnswer
     ensures { result ≡ read_answer (read_sheet sheet.now) }
 {
     match sheet::read(sheet) {
@@ -100,8 +98,7 @@ pub extern "C" fn m2m_read(sheet: &[u8]) -> ReadAnswer
     }
 }
 
-#[unsafe(no_mangle)]
-pub extern "C" fn m2m_entitlement(list: &[u8], name: &[u8]) -> EntitlementAnswer
+pub fn m2m_entitlement(list: &[u8], name: &[u8]) -> EntitlementAnswer
     ensures { result ≡ entitlement_answer (entitlement list.now name.now) }
 {
     match entitlements::find(list, name) {
@@ -113,37 +110,32 @@ pub extern "C" fn m2m_entitlement(list: &[u8], name: &[u8]) -> EntitlementAnswer
     }
 }
 
-#[unsafe(no_mangle)]
-pub extern "C" fn m2m_hour_open() -> Hour
+pub fn m2m_hour_open() -> Hour
     ensures { result ≡ opened }
 {
     Hour::open()
 }
 
-#[unsafe(no_mangle)]
-pub extern "C" fn m2m_hour_add(hour: Hour, sheet: &[u8], list: &[u8]) -> Changed
+pub fn m2m_hour_add(hour: Hour, sheet: &[u8], list: &[u8]) -> Changed
     ensures { result ≡ added hour (interval (inputs sheet.now list.now)) }
 {
     hour.add(sheet, list)
 }
 
-#[unsafe(no_mangle)]
-pub extern "C" fn m2m_hour_totals(hour: Hour) -> Totals
-    ensures { Hour-as-Promise hour result }
+pub fn m2m_hour_totals(hour: Hour) -> Totals
+    ensures { HourPromise hour result }
 {
     grown_hours::totals(hour)
 }
 
-#[unsafe(no_mangle)]
-pub extern "C" fn m2m_read_draft(sheet: &[u8]) -> Drafted
+pub fn m2m_read_draft(sheet: &[u8]) -> Drafted
     ensures { result ≡ drafted_from sheet.now }
 {
     draft_reader::read_draft(sheet)
 }
 
-#[unsafe(no_mangle)]
-pub extern "C" fn m2m_write_draft(draft: Draft, out: &mut [u8]) -> Written
-    ensures { Sheet-as-Promise (given draft) out.old out.new result }
+pub fn m2m_write_draft(draft: Draft, out: &mut [u8]) -> Written
+    ensures { SheetPromise (given draft) out.old out.new result }
 {
     sheet_writer::write_draft(draft, out)
 }
@@ -159,8 +151,7 @@ fn reason_code(reason: Reason) -> u8
     }
 }
 
-#[unsafe(no_mangle)]
-pub extern "C" fn m2m_explain(sheet: &[u8], list: &[u8]) -> ExplanationAnswer
+pub fn m2m_explain(sheet: &[u8], list: &[u8]) -> ExplanationAnswer
     ensures { result ≡ explanation_answer (explained sheet.now list.now) }
 {
     let f = explanation::locate(sheet, list);

@@ -1,6 +1,6 @@
 -- The ring laws of the integers.
 use mathlib.Core.Path.{◌≡◌, ap, ◌∙◌}
-use Prim.Native.Nat.{◌+◌, ◌*◌, ◌-◌}
+use Prim.Native.Nat.{◌+◌, ◌*◌}
 use native.Mathlib.Omega.{arith}
 use lib.IntN.{ℤ, neg_ℤ, ◌+ℤ◌, ◌*ℤ◌, *ℤ_comm}
 use Rattle.integers.proofs.Parts.{up, dn, up_neg, dn_neg, up_mul, dn_mul, add_law, eq_of}

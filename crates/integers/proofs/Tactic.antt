@@ -1,7 +1,7 @@
 -- Linear arithmetic over the integers, with a product of unknowns as an unknown of its own: `simp zi (simp zo (omega zarith))`.
 -- The hypotheses stand in the goal, as arrows: bind the numbers alone. A hypothesis times a factor is a hypothesis of its own (`le_mul`, `le_mul_abs`, `ap`).
 use mathlib.Core.Logic.{◌↔◌}
-use Prim.Native.Nat.{ℕ, ◌+◌, ◌*◌, ◌<◌, ◌≤◌}
+use Prim.Native.Nat.{ℕ, ◌*◌, ◌≤◌}
 use lib.IntN.{ℤ, pos, neg_ℤ, nat_abs, ◌+ℤ◌, ◌*ℤ◌}
 use lib.Signed.{◌≤ℤ◌, ◌<ℤ◌}
 use Rattle.integers.proofs.Linear.{zin, zout, zarith}

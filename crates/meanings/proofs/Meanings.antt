@@ -1,7 +1,7 @@
 -- The tables of words: no text has a zero byte, and how long they are.
 use Prim.Native.Nat.{ℕ, zero, suc, ◌≤◌, ◌<◌}
 use mathlib.Core.Path.{◌≡◌, refl, sym, ◌∙◌}
-use mathlib.Core.Bool.{Bool, true, false, ◌&&◌}
+use mathlib.Core.Bool.{Bool, true, ◌&&◌}
 use mathlib.Core.List.{List, [], ◌∷◌}
 use native.Mathlib.Omega.{arith}
 use borrow.Author.Tests.{le-leb, lt-leb, leb-true}
@@ -11,7 +11,7 @@ use Rattle.integers.proofs.Cases.{below_or}
 use Rattle.rows.proofs.NotMet.{both}
 use Rattle.writers.specs.Text.{ascii}
 use Rattle.texts.specs.inner.Texts.{packed, text_of}
-use Rattle.texts.proofs.Texts.{all_plain, text_is}
+use Rattle.texts.proofs.Texts.{text_is}
 use Rattle.meanings.specs.Meanings.{meanings, meaning, kind_words, kind_word}
 use Rattle.meanings.specs.inner.Tables.{meaning_room, word_room, word_of}
 

@@ -1,10 +1,11 @@
 -- Laws of writers that put their bytes before those that stand there.
-use mathlib.Core.Path.{◌≡◌, refl, sym, subst}
+use mathlib.Core.Path.{◌≡◌, refl, subst}
 use mathlib.Core.List.{List, [], ◌∷◌, ◌++◌, append-nil, append_assoc}
 use Prim.Native.Nat.{ℕ, suc, ◌+◌, ◌-◌, ◌≤◌}
 use native.Mathlib.Omega.{arith}
 use lib.ListN.{length, take, drop, set, length-append, length-drop, drop_of_length-le}
 use lib.Seq.{take-length, take_all, length-take-le, drop_at, drop-drop, set_split}
+use borrow.Rule.Slice.PartMut.{put_mid}
 use Rattle.writers.specs.inner.Prepended.{Prepended}
 
 -- nothing is written
@@ -42,6 +43,17 @@ copied {p} {xs} {zs} {a} {from} e short room f =
     record {
       left = rw (drop_at (take from xs) (zs ++ drop (length xs - from) (drop from xs)) from cut, f, all, none, append-nil, take-length p, drop-drop, sum) refl;
       count = sum;
+    }
+
+-- a slice is stored in `out[from..a]`
+pub stored : (p xs ys : List ℕ) (a from : ℕ) → from ≡ a - length p → length p ≤ a → a ≤ length xs → ys ≡ p
+    → Prepended p xs a (put_mid from (a - from) xs ys) from
+stored p xs ys a from e short room f =
+    let cut : length (take from xs) ≡ from = length-take-le from xs (omega arith) in
+    let sum : from + (a - from) ≡ a = omega arith in
+    record {
+      left = rw (drop_at (take from xs) (ys ++ drop (a - from) (drop from xs)) from cut, f, drop-drop, sum) refl;
+      count = omega arith;
     }
 
 -- the bytes under another name

@@ -20,6 +20,11 @@ pub copied : {p xs ys : List ℕ} {n : ℕ} → n ≡ length p → ys ≡ take (
 unfolding written
 copied {p} e f = record { left = rw (take-length p) at f; count = e }
 
+-- the bytes stand in front
+pub stored : {p xs ys : List ℕ} {n : ℕ} → n ≡ length p → ys ≡ p ++ drop (length p) xs → Wrote p xs ys n
+unfolding written
+stored e f = record { left = f; count = e }
+
 -- the bytes are the buffer's front, and behind them it is as before
 module _ {p xs ys : List ℕ} {n : ℕ} (f : Wrote p xs ys n) where
   pub front : take n ys ≡ p

@@ -124,7 +124,7 @@ class Answers(unittest.TestCase):
 
 class Program(unittest.TestCase):
     def test_the_lines(self):
-        self.assertTrue(os.path.exists(PROGRAM), "'rt check explain' makes the program")
+        self.assertTrue(os.path.exists(PROGRAM), "'tools/build explain' makes the program")
         intervals = [interval[1:3] for interval in (*cases(), *examples())]
         intervals += [(LAKE[:length], LIST_S) for length in range(len(LAKE))]
         for (sheet, entitlements), output in zip(intervals, printed(*intervals)):

@@ -81,7 +81,7 @@ class Answers(unittest.TestCase):
         self.assertEqual(fields(library.hour_open()), (zeros, zeros, 0, bytes(16), 0))
 
     def test_the_program_prints_the_same(self):
-        self.assertTrue(os.path.exists(PROGRAM), "'rt check hour' makes the program")
+        self.assertTrue(os.path.exists(PROGRAM), "'tools/build hour' makes the program")
         for path, case in cases():
             lists = {entitlements for _, entitlements in case.intervals}
             if len(lists) < 2:

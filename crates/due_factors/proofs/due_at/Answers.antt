@@ -1,7 +1,6 @@
 -- `due_at` meets its contract.
 use mathlib.Core.Path.{◌∙◌}
 use native.Mathlib.Omega.{arith}
-use borrow.Author.Rules.{rules}
 use Rattle.due_factors.proofs.ByTarget.{stands, due-standing}
 use Rattle.due_factors.proofs.due_at.Goals as goal
 

@@ -1,7 +1,6 @@
 -- `due_count` meets its contract.
 use native.Mathlib.Omega.{arith}
 use mathlib.Core.Path.{sym}
-use borrow.Author.Rules.{rules}
 use Rattle.due_factors.proofs.DueList.{length_due, per_most}
 use Rattle.due_factors.proofs.due_count.Goals as goal
 

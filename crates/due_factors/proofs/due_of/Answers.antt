@@ -1,7 +1,6 @@
 -- `due_of` meets its contract.
 use native.Mathlib.Omega.{arith}
 use mathlib.Core.Path.{sym}
-use borrow.Author.Rules.{rules}
 use Rattle.due_factors.proofs.DueList.{in-units, in-zones, in-points, in-pars}
 use Rattle.due_factors.proofs.due_of.Goals as goal
 

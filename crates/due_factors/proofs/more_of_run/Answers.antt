@@ -3,7 +3,6 @@ use Prim.Native.Nat.{◌-◌, ◌<◌}
 use lib.ListN.{get_or}
 use mathlib.Core.Path.{◌≡◌, refl, sym}
 use native.Mathlib.Omega.{arith}
-use borrow.Author.Rules.{rules}
 use Rattle.due_factors.specs.Due.{due_list, no_due}
 use Rattle.due_factors.proofs.DueList.{whole}
 use Rattle.due_factors.proofs.Runs.{more-units, more-zones, more-points, more-pars}

@@ -1,6 +1,5 @@
 -- `offset_of` meets its contract.
 use borrow.Author.Tests.{ne_eqb}
-use borrow.Author.Rules.{rules}
 use Rattle.due_factors.specs.inner.Places.{offset}
 use Rattle.due_factors.proofs.offset_of.Goals as goal
 

@@ -2,7 +2,6 @@
 use Prim.Native.Nat.{◌+◌, ◌*◌, ◌-◌, ◌<◌}
 use native.Mathlib.Omega.{arith}
 use mathlib.Core.Path.{sym}
-use borrow.Author.Rules.{rules}
 use Rattle.due_factors.proofs.KeyPlaces.{place_flowgate, place_par, place_below}
 use Rattle.due_factors.proofs.DueList.{length_due, per_most}
 use Rattle.due_factors.proofs.place_of.Goals as goal

@@ -1,7 +1,6 @@
 -- `standing_of` meets its contract.
 use native.Mathlib.Omega.{arith}
 use mathlib.Core.Path.{sym}
-use borrow.Author.Rules.{rules}
 use Rattle.due_factors.proofs.ByTarget.{some-each, stands, standing-flowgate, standing-par}
 use Rattle.due_factors.proofs.standing_of.Goals as goal
 

@@ -1,7 +1,6 @@
 -- `factor_beyond` meets its contract: a number of 16 bits keeps its value in 64.
 use mir.Facts.{to_z-of_z, sfits_widen}
 use mir.Syntax.{w16, w64}
-use borrow.Author.Rules.{rules}
 use Rattle.field_rows.proofs.factor_beyond.Goals as goal
 
 pub overflow_cast-z : goal.overflow_cast-z

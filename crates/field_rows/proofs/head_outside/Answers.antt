@@ -1,5 +1,4 @@
 -- `head_outside` meets its contract.
-use borrow.Author.Rules.{rules}
 use Rattle.field_rows.proofs.head_outside.Goals as goal
 
 pub returns : goal.returns

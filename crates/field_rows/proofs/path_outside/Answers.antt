@@ -1,7 +1,6 @@
 -- `path_outside` meets its contract.
 use mir.Facts.{to_z-of_z}
 use mir.Syntax.{w32}
-use borrow.Author.Rules.{rules}
 use Rattle.field_rows.proofs.path_outside.Goals as goal
 
 pub returns : goal.returns

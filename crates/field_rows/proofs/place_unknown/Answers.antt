@@ -1,5 +1,4 @@
 -- `place_unknown` meets its contract.
-use borrow.Author.Rules.{rules}
 use Rattle.field_rows.proofs.place_unknown.Goals as goal
 
 pub returns-in-Line : goal.returns-in-Line

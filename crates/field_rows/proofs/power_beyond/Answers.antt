@@ -1,7 +1,6 @@
 -- `power_beyond` meets its contract: a number of 32 bits keeps its value in 64.
 use mir.Facts.{to_z-of_z, sfits_widen}
 use mir.Syntax.{w32, w64}
-use borrow.Author.Rules.{rules}
 use Rattle.field_rows.proofs.power_beyond.Goals as goal
 
 pub overflow_cast-z : goal.overflow_cast-z

@@ -1,5 +1,4 @@
 -- `sbe16_at` meets its contract.
-use borrow.Author.Rules.{rules}
 use mathlib.Core.Path.{ap, ◌∙◌}
 use mir.Syntax.{w16}
 use mir.Val.{to_z}

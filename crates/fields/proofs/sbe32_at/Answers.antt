@@ -1,5 +1,4 @@
 -- `sbe32_at` meets its contract.
-use borrow.Author.Rules.{rules}
 use mathlib.Core.Path.{ap, ◌∙◌}
 use mir.Syntax.{w32}
 use mir.Val.{to_z}

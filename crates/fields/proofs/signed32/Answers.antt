@@ -1,7 +1,6 @@
 -- `signed32` meets its contract.
 use Prim.Native.Nat.{◌-◌}
 use native.Mathlib.Omega.{arith}
-use borrow.Author.Rules.{rules}
 use lib.Dec.{lit<}
 use mir.Syntax.{w32}
 use Rattle.fields.proofs.Signed.{fits, folded}

@@ -29,6 +29,11 @@ overflow_add-result c =
     let ends-here : (c.first_of.result + c.size_of.result * c.args.i + c.size_of.result ≤ length c.args.s.now) = let e = within c.args.l c.args.kind c.args.i c.requires.2 c.requires.3 in omega (arith, rw (← c.first_of.ensures, ← c.size_of.ensures.0) at e) in
     omega (arith, ends-here)
 
+pub slice_bounds-result-end : goal.slice_bounds-result-end
+slice_bounds-result-end c =
+    let ends-here : (c.first_of.result + c.size_of.result * c.args.i + c.size_of.result ≤ length c.args.s.now) = let e = within c.args.l c.args.kind c.args.i c.requires.2 c.requires.3 in omega (arith, rw (← c.first_of.ensures, ← c.size_of.ensures.0) at e) in
+    omega (arith, ends-here)
+
 pub returns : goal.returns
 returns c =
     let ends-here : (c.first_of.result + c.size_of.result * c.args.i + c.size_of.result ≤ length c.args.s.now) = let e = within c.args.l c.args.kind c.args.i c.requires.2 c.requires.3 in omega (arith, rw (← c.first_of.ensures, ← c.size_of.ensures.0) at e) in

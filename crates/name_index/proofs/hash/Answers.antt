@@ -1,6 +1,5 @@
 -- `hash` meets its contract.
 use mathlib.Core.Path.{refl}
-use borrow.Author.Rules.{rules}
 use Rattle.name_index.specs.inner.Index.{hash_of}
 use Rattle.name_index.proofs.hash.Goals as goal
 

@@ -1,5 +1,4 @@
 -- `hash_at` meets its contract.
-use borrow.Author.Rules.{rules}
 use Rattle.name_index.specs.inner.Index.{hash_at}
 use Rattle.name_index.proofs.hash_at.Goals as goal
 

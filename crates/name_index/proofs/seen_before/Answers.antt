@@ -1,7 +1,6 @@
 -- `seen_before` meets its contract.
 use mathlib.Core.Path.{ap, ◌∙◌}
 use native.Mathlib.Omega.{arith}
-use borrow.Author.Rules.{rules}
 use Rattle.name_index.specs.inner.Index.{hash_at, with_next}
 use Rattle.name_index.proofs.Table.{hash_small}
 use Rattle.name_index.proofs.seen_before.Goals as goal

@@ -1,5 +1,4 @@
 -- `filled_word` meets its contract.
-use borrow.Author.Rules.{rules}
 use Rattle.names.specs.inner.Words.{filled_word}
 use Rattle.names.proofs.filled_word.Goals as goal
 

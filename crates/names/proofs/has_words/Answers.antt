@@ -1,6 +1,5 @@
 -- `has_words` meets its contract.
 use mathlib.Core.Path.{sym, ◌∙◌}
-use borrow.Author.Rules.{rules}
 use borrow.Author.Tests.{eq-eqb, ne_eqb}
 use Rattle.names.specs.inner.Words.{has_words}
 use Rattle.names.proofs.has_words.Goals as goal

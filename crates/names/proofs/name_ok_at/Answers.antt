@@ -1,7 +1,6 @@
 -- `name_ok_at` meets its contract: a name is judged by its words.
 use mathlib.Core.Path.{ap₂, ◌∙◌}
 use native.Mathlib.Omega.{arith}
-use borrow.Author.Rules.{rules}
 use Rattle.names.specs.inner.Words.{words_ok}
 use Rattle.names.proofs.Words.{words_judge}
 use Rattle.names.proofs.name_ok_at.Goals as goal

@@ -1,6 +1,5 @@
 -- `words_ok` meets its contract.
 use borrow.Author.Tests.{eq-eqb, ne_eqb}
-use borrow.Author.Rules.{rules}
 use Rattle.names.specs.inner.Words.{words_ok}
 use Rattle.names.proofs.words_ok.Goals as goal
 

@@ -1,5 +1,4 @@
 -- `one_if_same` meets its contract.
-use mathlib.Core.Path.{◌≡◌}
 use native.Mathlib.Omega.{arith}
 use borrow.Author.Tests.{eq-eqb, ne_eqb}
 use Rattle.record_numbers.proofs.one_if_same.Goals as goal

@@ -1,10 +1,6 @@
 -- `record_number` meets its contract.
-use Prim.Native.Nat.{◌+◌, ◌-◌, ◌≤◌}
-use mathlib.Core.Path.{◌≡◌, refl, sym}
-use native.Mathlib.Omega.{arith}
-use lib.ListN.{get_or}
-use borrow.Author.Rules.{rules}
-use Rattle.record_numbers.proofs.Counted.{Counting, begun, next, done, none_there}
+use Prim.Native.Nat.{◌-◌}
+use Rattle.record_numbers.proofs.Counted.{Counting}
 use Rattle.record_numbers.proofs.record_number.Given as goal
 
 abbrev pub invariant-loop-from : goal.invariant-loop-from

@@ -1,6 +1,5 @@
 -- `most_of` meets its contract.
 use mathlib.Core.Path.{◌≡◌, refl, sym, ap}
-use borrow.Author.Rules.{rules}
 use Rattle.integers.proofs.Cases.{equal_or}
 use Rattle.record_table.specs.Table.{KindRow, no_kind, kind_rows, kind_of}
 use Rattle.record_table.proofs.ByKind.{another}

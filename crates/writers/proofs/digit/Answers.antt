@@ -1,6 +1,5 @@
 -- `digit` reads its table.
 use mathlib.Core.Path.{refl}
-use borrow.Author.Rules.{rules}
 use Rattle.writers.specs.Text.{ascii}
 use Rattle.writers.proofs.digit.Goals as goal
 

@@ -1,7 +1,7 @@
 -- `put` copies all of its bytes.
-use borrow.Author.Rules.{rules}
-use Rattle.writers.proofs.Writing.{copied}
+use mathlib.Core.Path.{refl}
+use Rattle.writers.proofs.Writing.{stored}
 use Rattle.writers.proofs.put.Goals as goal
 
 pub returns : goal.returns
-returns c = let e = c.before.before.copy.ensures in copied e.0 e.1
+returns c = rw c.copy_from_slice.ensures.after (stored refl refl)

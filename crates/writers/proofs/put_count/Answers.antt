@@ -1,7 +1,6 @@
 -- `put_count` writes the digits of a number of 64 bits, of which there are at most 20.
 use Prim.Native.Nat.{ℕ, ◌≤◌}
 use native.Mathlib.Omega.{arith}
-use lib.Dec.{lit<}
 use lib.ListN.{length}
 use mir.Syntax.{w64}
 use mir.Val.{Fits}
@@ -14,11 +13,10 @@ room : (n : ℕ) → Fits w64 n → length (natural n) ≤ 20
 room n h = natural_length 19 n (omega (arith, h.fits))
 
 pub put_natural-requires : goal.put_natural-requires
-put_natural-requires c = (omega (arith, room _ c.before.before.ranges.n), search rules)
+put_natural-requires c = (omega (arith, room _ c.ranges.n), search rules)
 
 pub returns : goal.returns
 unfolding decimal
 returns c =
-    let p = c.before.before in
-    let n = p.put_natural.ensures.count in
-    (p.put_natural.ensures, omega (arith, room _ p.before.before.before.ranges.n))
+    let n = c.put_natural.ensures.count in
+    record { prepended = c.put_natural.ensures; at_bound = omega (arith, room _ c.ranges.n) }

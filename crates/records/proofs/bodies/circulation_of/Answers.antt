@@ -1,7 +1,6 @@
 -- `circulation_of` meets its contract.
 use mir.Facts.{to_z-of_z}
 use mir.Syntax.{w32}
-use borrow.Author.Rules.{rules}
 use Rattle.records.specs.Bodies.{circulation_of}
 use Rattle.records.proofs.bodies.circulation_of.Goals as goal
 

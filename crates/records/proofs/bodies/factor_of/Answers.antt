@@ -1,7 +1,6 @@
 -- `factor_of` meets its contract.
 use mir.Facts.{to_z-of_z}
 use mir.Syntax.{w16}
-use borrow.Author.Rules.{rules}
 use Rattle.records.specs.Bodies.{factor_of}
 use Rattle.records.proofs.bodies.factor_of.Goals as goal
 

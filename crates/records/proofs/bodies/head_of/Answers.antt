@@ -1,5 +1,4 @@
 -- `head_of` meets its contract.
-use borrow.Author.Rules.{rules}
 use Rattle.records.specs.Bodies.{head_of}
 use Rattle.records.proofs.bodies.head_of.Goals as goal
 

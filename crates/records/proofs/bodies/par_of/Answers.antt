@@ -1,7 +1,6 @@
 -- `par_of` meets its contract.
 use mir.Facts.{to_z-of_z}
 use mir.Syntax.{w32}
-use borrow.Author.Rules.{rules}
 use Rattle.records.specs.Bodies.{par_of}
 use Rattle.records.proofs.bodies.par_of.Goals as goal
 

@@ -1,7 +1,6 @@
 -- `path_of` meets its contract.
 use mir.Facts.{to_z-of_z}
 use mir.Syntax.{w16, w32}
-use borrow.Author.Rules.{rules}
 use Rattle.records.specs.Bodies.{path_of}
 use Rattle.records.proofs.bodies.path_of.Goals as goal
 

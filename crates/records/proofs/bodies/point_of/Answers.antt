@@ -1,5 +1,4 @@
 -- `point_of` meets its contract.
-use borrow.Author.Rules.{rules}
 use Rattle.records.specs.Bodies.{point_of}
 use Rattle.records.proofs.bodies.point_of.Goals as goal
 

@@ -1,5 +1,4 @@
 -- `unit_of` meets its contract.
-use borrow.Author.Rules.{rules}
 use Rattle.records.specs.Bodies.{unit_of}
 use Rattle.records.proofs.bodies.unit_of.Goals as goal
 

@@ -1,5 +1,4 @@
 -- `zone_of` meets its contract.
-use borrow.Author.Rules.{rules}
 use Rattle.records.specs.Bodies.{zone_of}
 use Rattle.records.proofs.bodies.zone_of.Goals as goal
 

@@ -1,0 +1,6 @@
+-- `settle` hands out the interval's statement.
+use borrow.Author.Rules.{rules}
+use Rattle.settlement.proofs.settle.Goals as goal
+
+pub returns : goal.returns
+returns c = c.settle_interval.ensures.promise

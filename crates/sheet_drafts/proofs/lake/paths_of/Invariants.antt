@@ -1,0 +1,15 @@
+-- `paths_of` meets its contract.
+use Prim.Native.Nat.{◌-◌}
+use native.Mathlib.Omega.{arith}
+use Rattle.records.specs.Content.{no_path}
+use Rattle.sheet.specs.Sheet.{content_of}
+use Rattle.sheet.proofs.Accepted.{allowed, counts}
+use Rattle.sheet_drafts.proofs.Cells.{Filled, begun, more, whole}
+use borrow.Author.Rules.{rules}
+use Rattle.sheet_drafts.proofs.lake.paths_of.Given as goal
+
+abbrev pub invariant-loop-i : goal.invariant-loop-i
+invariant-loop-i l = Filled 5 no_path (content_of l.s).paths l.l.paths l.paths l.i
+
+abbrev pub decreases-loop-i : goal.decreases-loop-i
+decreases-loop-i l = l.l.paths - l.i

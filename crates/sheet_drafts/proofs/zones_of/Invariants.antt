@@ -1,0 +1,15 @@
+-- `zones_of` meets its contract.
+use Prim.Native.Nat.{◌-◌}
+use native.Mathlib.Omega.{arith}
+use Rattle.records.specs.Content.{no_zone}
+use Rattle.sheet.specs.Sheet.{content_of}
+use Rattle.sheet.proofs.Accepted.{allowed, counts}
+use Rattle.sheet_drafts.proofs.Cells.{Filled, begun, more, whole}
+use borrow.Author.Rules.{rules}
+use Rattle.sheet_drafts.proofs.zones_of.Given as goal
+
+abbrev pub invariant-loop-i : goal.invariant-loop-i
+invariant-loop-i l = Filled 33 no_zone (content_of l.s).zones l.l.zones l.zones l.i
+
+abbrev pub decreases-loop-i : goal.decreases-loop-i
+decreases-loop-i l = l.l.zones - l.i
