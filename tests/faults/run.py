@@ -148,6 +148,10 @@ def named(run):
     same(run(arguments=["a sheet", "none"]), prints.no_list, told("none", errno.ENOENT))
     same(run(arguments=["none", "nor this"]), prints.no_sheet, told("none", errno.ENOENT) + told("nor this", errno.ENOENT))
     same(run(arguments=["", "-"]), prints.no_sheet, told("", errno.ENOENT), of="an empty name")
+    name = os.fsdecode(b"sheet\xff")
+    with open(run.path(name), "wb") as file:
+        file.write(SHEET)
+    same(run(arguments=[name, "-"]), prints.no_sheet, told(name, errno.EILSEQ), of="a name that is no UTF-8")
     for length in (4095, 4096, 5000):
         name = "x" * length
         same(run(arguments=[name, "-"]), prints.no_sheet, told(name[:4096], errno.ENAMETOOLONG), of="a name of %d" % length)

@@ -35,7 +35,7 @@ def why(number):
 
 def told_by(program, name, number):
     """The line that tells a failure."""
-    return b"%s: %s: %s\n" % (program.encode(), name.encode(), why(number))
+    return b"%s: %s: %s\n" % (program.encode(), os.fsencode(name), why(number))
 
 
 class Runs:
