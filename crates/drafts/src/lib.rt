@@ -37,7 +37,7 @@ pub struct DraftPoint {
 
 // The first records of each array are given, as many as its count says and at most all.
 #[repr(C)]
-#[derive(Drop)]
+#[derive(Clone, Copy)]
 pub struct Draft {
     pub head: Head,
     pub zone_count: usize,

@@ -10,7 +10,7 @@ use settlement::Interval;
 // The amounts and seconds of its intervals stand in the first `count` cells. The cells behind them are zero, and so are an
 // empty hour's name and Monitoring RTO: two hours are the same where all of this is.
 #[repr(C)]
-#[derive(Drop)]
+#[derive(Clone, Copy)]
 pub struct Hour {
     amounts: [i64; Hour::INTERVALS],
     seconds: [u16; Hour::INTERVALS],
@@ -21,7 +21,7 @@ pub struct Hour {
 
 // 0 and the hour with a change, or a refusal's number and the hour as it was.
 #[repr(C)]
-#[derive(Drop)]
+#[derive(Clone, Copy)]
 pub struct Changed {
     pub refusal: u8,
     pub hour: Hour,
