@@ -68,7 +68,6 @@ def writing(run):
     run.put()
     for number in (errno.EIO, errno.ENOSPC, errno.EPIPE, errno.EFBIG, errno.EDQUOT):
         same(run("write:1:%d" % number), b"", told("standard output", number), of=why(number))
-        same(run("close:4:%d" % number), BOTH, told("standard output", number), of="closing: %s" % why(number))
     for k in range(len(BOTH)):
         faults = "write:%d:28 write:*:short=1" % (1 + k)
         same(run(faults), BOTH[:k], told("standard output", errno.ENOSPC), of="behind byte %d" % k)

@@ -91,7 +91,6 @@ def writing(run):
     run.put()
     for number in (errno.EIO, errno.ENOSPC, errno.EPIPE, errno.EFBIG, errno.EDQUOT):
         same(run("write:1:%d" % number), b"", told("standard output", number), of=why(number))
-        same(run("close:3:%d" % number), prints.accepted, told("standard output", number), of="closing: %s" % why(number))
     for k in range(1, len(prints.accepted)):
         faults = "write:1:short=%d write:2:28" % k
         same(run(faults), prints.accepted[:k], told("standard output", errno.ENOSPC), of="the output, behind byte %d" % k)
@@ -149,6 +148,10 @@ def named(run):
     same(run(arguments=["a sheet", "none"]), prints.no_list, told("none", errno.ENOENT))
     same(run(arguments=["none", "nor this"]), prints.no_sheet, told("none", errno.ENOENT) + told("nor this", errno.ENOENT))
     same(run(arguments=["", "-"]), prints.no_sheet, told("", errno.ENOENT), of="an empty name")
+    name = os.fsdecode(b"sheet\xff")
+    with open(run.path(name), "wb") as file:
+        file.write(SHEET)
+    same(run(arguments=[name, "-"]), prints.no_sheet, told(name, errno.EILSEQ), of="a name that is no UTF-8")
     for length in (4095, 4096, 5000):
         name = "x" * length
         same(run(arguments=[name, "-"]), prints.no_sheet, told(name[:4096], errno.ENAMETOOLONG), of="a name of %d" % length)

@@ -35,7 +35,7 @@ def why(number):
 
 def told_by(program, name, number):
     """The line that tells a failure."""
-    return b"%s: %s: %s\n" % (program.encode(), name.encode(), why(number))
+    return b"%s: %s: %s\n" % (program.encode(), os.fsencode(name), why(number))
 
 
 class Runs:
@@ -114,8 +114,21 @@ def interrupted_calls(run, files):
     same(run(" ".join(twice + ["read:*:short=1", "write:*:short=1"])), run.whole, of="interrupted between bytes")
 
 
+def storing(run):
+    """A regular file that was written to is stored, and what fails then is told. Other outputs have nothing to store."""
+    run.put()
+    for numbers, told in (((errno.EIO, errno.ENOSPC, errno.EDQUOT), run.told), ((errno.EINTR, errno.EINVAL), lambda *_: b"")):
+        for number in numbers:
+            with open(run.path("out"), "w+b") as file:
+                _, err, status = run("sync:1:%d" % number, stdout=file)
+                file.seek(0)
+                same((file.read(), err, status), run.whole, told("standard output", number), of="storing: %s" % why(number))
+    same(run("sync:*:5"), run.whole, of="a pipe is not stored")
+
+
 def failing_outputs(run):
-    """A full disk, a closed output, a pipe that nobody reads, a limit on the file's size."""
+    """A full disk, a closed output, a pipe that nobody reads, a limit on the file's size, a file that can't be stored."""
+    storing(run)
     run.put()
     with open("/dev/full", "wb") as full:
         same(run(stdout=full), None, run.told("standard output", errno.ENOSPC), of="a full disk")
@@ -149,8 +162,8 @@ def failing_outputs(run):
                     left = file.read()
                 number = errno.EFBIG
                 assert left == run.whole[:limit], left
-            # By default the system ends the program, which its status tells.
-            if ignored:
+            # By default the system ends the program at a file's limit, which its status tells. std ignores SIGPIPE.
+            if ignored or name == "pipe":
                 assert (err, status) == (run.told("standard output", number), 0), (name, err, status)
             else:
                 assert status == -by, (name, err, status)

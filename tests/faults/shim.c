@@ -1,9 +1,9 @@
 /* Faults in the calls of a program that is run with this library preloaded.
  *
  * FAULTS holds words CALL:N:WHAT, parted by blanks. CALL is open, read, write (to standard output), tell (a write to
- * standard error) or close; N is the number of the call, from 1, or * for each. WHAT is a number, the errno with which
- * the call fails; or short=K, which lets it move at most K bytes; or zero, which moves none and says so. The first word
- * that fits decides. */
+ * standard error), sync (fdatasync) or close; N is the number of the call, from 1, or * for each. WHAT is a number, the
+ * errno with which the call fails; or short=K, which lets it move at most K bytes; or zero, which moves none and says so.
+ * The first word that fits decides. */
 #define _GNU_SOURCE
 #include <dlfcn.h>
 #include <errno.h>
@@ -13,9 +13,9 @@
 #include <string.h>
 #include <unistd.h>
 
-enum { OPEN, READ, WRITE, TELL, CLOSE, CALLS };
+enum { OPEN, READ, WRITE, TELL, SYNC, CLOSE, CALLS };
 
-static const char *const names[CALLS] = {"open:", "read:", "write:", "tell:", "close:"};
+static const char *const names[CALLS] = {"open:", "read:", "write:", "tell:", "sync:", "close:"};
 static long counts[CALLS];
 
 /* -1: the call fails with errno; else at most so many bytes. */
@@ -66,6 +66,12 @@ ssize_t read(int fd, void *to, size_t size) {
 ssize_t write(int fd, const void *from, size_t size) {
     long most = allowed(fd == STDERR_FILENO ? TELL : WRITE, (long)size);
     return most <= 0 && size > 0 ? most : REAL("write", ssize_t (*)(int, const void *, size_t))(fd, from, (size_t)most);
+}
+
+int fdatasync(int fd) {
+    if (allowed(SYNC, 1) < 0)
+        return -1;
+    return REAL("fdatasync", int (*)(int))(fd);
 }
 
 int close(int fd) {

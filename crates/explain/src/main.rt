@@ -2,6 +2,40 @@
 // explain SHEET LIST: tells which record of the sheet refuses it and why, or the reason for the price, of the two files named,
 // or of sheet.bin and entitle.bin. It only reads, calls the proved function and writes; whatever fails is told on standard
 // error.
+ghost use Rattle.std.specs.Prelude.{◌≤◌, length, take};
+ghost use Rattle.files.specs.Files.{Written};
+ghost use Rattle.explanation_report.specs.ExplanationReport.{explain_output};
+
+use std::io::Write;
+
+// Prints what comes of the sheet and the list at the front of their buffers.
+fn print_explained<W: Write, E: Write>(
+    errors: &mut E,
+    printed: &mut W,
+    sheet: &[u8],
+    sheet_length: usize,
+    list: &[u8],
+    list_length: usize,
+) -> bool
+    requires sheet_fits { sheet_length ≤ length sheet.now }
+    requires list_fits { list_length ≤ length list.now }
+    ensures { Written (W.contents printed.old) (W.contents printed.new)
+        (explain_output (take sheet_length sheet.now) (take list_length list.now)) result }
+{
+    let mut out = [0u8; explanation_report::OUTPUT_ROOM];
+    let length = explanation_report::write_explanation(
+        &sheet[..sheet_length],
+        &list[..list_length],
+        &mut out,
+    );
+    files::send(
+        errors,
+        b"explain",
+        b"standard output",
+        printed,
+        &out[..length],
+    )
+}
 
 // A large buffer holds more than the longest sheet and its next record, and more than the longest list and a byte.
 fn explain_files(rt: &HostRuntime, sheet_name: &[u8], list_name: &[u8]) {
@@ -10,19 +44,13 @@ fn explain_files(rt: &HostRuntime, sheet_name: &[u8], list_name: &[u8]) {
     let sheet_length = files::load(rt, &mut errors, b"explain", sheet_name, &mut sheet);
     let mut list = io::large_buffer();
     let list_length = files::load(rt, &mut errors, b"explain", list_name, &mut list);
-    let mut out = [0u8; explanation_report::OUTPUT_ROOM];
-    let length = explanation_report::write_explanation(
-        &sheet[..sheet_length],
-        &list[..list_length],
-        &mut out,
-    );
-    let mut output = rt.stdout();
-    if files::send(
+    if print_explained(
         &mut errors,
-        b"explain",
-        b"standard output",
-        &mut output,
-        &out[..length],
+        &mut rt.stdout(),
+        &sheet,
+        sheet_length,
+        &list,
+        list_length,
     ) {
         files::finish(
             rt,

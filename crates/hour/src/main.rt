@@ -58,14 +58,12 @@ fn print_hour(rt: &HostRuntime, hour: Hour) {
 // Where a line can't be printed nothing more is.
 fn add_files(rt: &HostRuntime, count: usize, list: &[u8]) {
     let mut hour = Hour::open();
-    let mut i = 2;
-    while i < count {
+    for i in 2..count {
         let told = add_file(rt, hour, i, list);
         if !told.printed {
             return;
         }
         hour = told.hour;
-        i += 1;
     }
     print_hour(rt, hour);
 }

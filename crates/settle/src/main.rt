@@ -1,6 +1,36 @@
 #![tactic(auto)]
 // settle SHEET LIST: settles the two files named, or sheet.bin and entitle.bin, and prints the statement or the refusal's
 // line. It only reads, calls the proved function and writes; whatever fails is told on standard error.
+ghost use Rattle.std.specs.Prelude.{◌≤◌, length, take};
+ghost use Rattle.files.specs.Files.{Written};
+ghost use Rattle.report.specs.Report.{output};
+
+use std::io::Write;
+
+// Prints what comes of the sheet and the list at the front of their buffers.
+fn print_settled<W: Write, E: Write>(
+    errors: &mut E,
+    printed: &mut W,
+    sheet: &[u8],
+    sheet_length: usize,
+    list: &[u8],
+    list_length: usize,
+) -> bool
+    requires sheet_fits { sheet_length ≤ length sheet.now }
+    requires list_fits { list_length ≤ length list.now }
+    ensures { Written (W.contents printed.old) (W.contents printed.new)
+        (output (take sheet_length sheet.now) (take list_length list.now)) result }
+{
+    let mut out = [0u8; report::OUTPUT_ROOM];
+    let length = report::write_output(&sheet[..sheet_length], &list[..list_length], &mut out);
+    files::send(
+        errors,
+        b"settle",
+        b"standard output",
+        printed,
+        &out[..length],
+    )
+}
 
 // A large buffer holds more than the longest sheet and its next record, and more than the longest list and a byte.
 fn settle_files(rt: &HostRuntime, sheet_name: &[u8], list_name: &[u8]) {
@@ -9,15 +39,13 @@ fn settle_files(rt: &HostRuntime, sheet_name: &[u8], list_name: &[u8]) {
     let sheet_length = files::load(rt, &mut errors, b"settle", sheet_name, &mut sheet);
     let mut list = io::large_buffer();
     let list_length = files::load(rt, &mut errors, b"settle", list_name, &mut list);
-    let mut out = [0u8; report::OUTPUT_ROOM];
-    let length = report::write_output(&sheet[..sheet_length], &list[..list_length], &mut out);
-    let mut output = rt.stdout();
-    if files::send(
+    if print_settled(
         &mut errors,
-        b"settle",
-        b"standard output",
-        &mut output,
-        &out[..length],
+        &mut rt.stdout(),
+        &sheet,
+        sheet_length,
+        &list,
+        list_length,
     ) {
         files::finish(
             rt,
