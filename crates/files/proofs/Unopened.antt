@@ -8,6 +8,10 @@ use Rattle.transfers.specs.declared.Outcome.TheVariants.{Failed}
 use Rattle.transfers.specs.Transfer.{transfer}
 use Rattle.files.specs.Files.{Loaded}
 
-pub unopened : (room : ℕ) → Loaded room 0
+pub unopened : (room error : ℕ) → Loaded room 0
 unfolding transfer
-unopened room = record { outcome = Failed 5; received = record { answers = Error 5 ∷ []; outcome = refl; within = omega arith }; counts = refl }
+unopened room error = record { outcome = Failed error; received = record { answers = Error error ∷ []; outcome = refl; within = omega arith }; counts = refl }
+
+-- by EIO, whatever the reason
+pub unopened_file : (room : ℕ) → Loaded room 0
+unopened_file room = unopened room 5

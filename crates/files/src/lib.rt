@@ -58,7 +58,7 @@ fn tell_errno<E: Write>(errors: &mut E, program: &[u8], name: &[u8], errno: u32)
 }
 
 // Reads what was opened, up to the buffer's length: all bytes, or none where it was not opened or a call fails.
-#[tactic(auto, using(crate::proofs::Unopened::unopened))]
+#[tactic(auto, using(crate::proofs::Unopened::unopened_file))]
 fn read_opened<F: Read + Drop, E: Write>(
     errors: &mut E,
     program: &[u8],

@@ -15,7 +15,7 @@ use Rattle.transfers.specs.declared.Outcome.TheVariants.{Whole, Failed}
 use Rattle.transfers.specs.declared.Step.{Step}
 use Rattle.transfers.specs.declared.Step.TheVariants.{Onward, Over}
 use Rattle.transfers.specs.Transfer.{after, next, transfer, bytes_of, Transferred}
-use Rattle.transfers.specs.inner.Steps.{Moves, Answered, Leads}
+use Rattle.transfers.specs.inner.Steps.{Moves, NoInterruption, NotInterrupted, Answered, Leads}
 
 moved : (n done room : ℕ) (none : Outcome) (b e : Bool) → ltb n (room - done) ≡ b → bytes_of none ≤ room
     → Leads room (cond b (cond e (Over none) (Onward (done + n))) (Over (Whole room)))
@@ -28,6 +28,17 @@ pub leads : (answer : Answer) (done room : ℕ) (none : Outcome) → done ≤ ro
 leads (Moved n) done room none d h = moved n done room none (ltb n (room - done)) (eqb n 0) refl h
 leads Interrupted done room none d h = d
 leads (Error error) done room none d h = omega arith
+
+numbered : (n done room : ℕ) (b e : Bool) → NotInterrupted (cond b (cond e (Over (Failed 5)) (Onward (done + n))) (Over (Whole room)))
+numbered n done room true true = λ (q : ◌≡◌ {A = ℕ} 5 4). omega arith
+numbered n done room true false = tt
+numbered n done room false e = tt
+
+-- a write fails by 5 or by its call's error, and by no interruption
+pub not_interrupted : (answer : Answer) (done room : ℕ) → NoInterruption answer → NotInterrupted (after answer done room (Failed 5))
+not_interrupted (Moved n) done room h = numbered n done room (ltb n (room - done)) (eqb n 0)
+not_interrupted Interrupted done room h = tt
+not_interrupted (Error error) done room h = h
 
 itself : (n : ℕ) → min n n ≡ n
 itself n = omega arith

@@ -2,7 +2,7 @@
 // Bytes read and written whole: all bytes, or a failure.
 ghost use Rattle.std.specs.Prelude.{ℕ, ◌≤◌, ◌-◌, ◌≡◌, length, List, Option};
 ghost use Rattle.transfers.specs.Transfer.{after as Transfer·after, Received, Delivered, ReadWhole, WroteOn, WroteWhole};
-ghost use Rattle.transfers.specs.inner.Steps.{failed, Moves, Answered, Leads, Gives, Takes, NoneMoved, ReadOn, ReadLeads, WriteLeads};
+ghost use Rattle.transfers.specs.inner.Steps.{failed, Moves, NoInterruption, Answered, Leads, NotInterrupted, Gives, Takes, NoneMoved, ReadOn, ReadLeads, WriteLeads};
 ghost use Rattle.transfers.specs.declared.Outcome.TheVariants.{Whole, Failed};
 
 use std::io;
@@ -39,6 +39,7 @@ pub enum Step {
 pub fn failure(errno: i32) -> Answer
     ensures value { result ≡ failed errno }
     ensures by_index { (handed : ℕ) → Moves handed result }
+    ensures number { NoInterruption result }
 {
     if errno < 0 {
         return Answer::Error(0);
@@ -54,6 +55,7 @@ pub fn failure(errno: i32) -> Answer
 fn refusal(error: &io::Error) -> Answer
     ensures none { NoneMoved result }
     ensures moves { (handed : ℕ) → Moves handed result }
+    ensures number { NoInterruption result }
 {
     match error.raw_os_error() {
         Some(errno) => failure(errno),
@@ -74,6 +76,7 @@ fn read_some<R: Read>(reader: &mut R, part: &mut [u8]) -> Answer
 
 fn write_some<W: Write>(writer: &mut W, part: &[u8]) -> Answer
     ensures moves { Moves (length part.now) result }
+    ensures number { NoInterruption result }
     ensures takes { Takes (W.contents writer.old) (W.contents writer.new) part.now result }
 {
     match writer.write(part) {
@@ -120,6 +123,7 @@ fn write_step<W: Write>(writer: &mut W, bytes: &[u8], done: usize) -> Step
     requires { done ≤ length bytes.now }
     ensures answered { Answered (λ (n : ℕ). Failed 5) done (length bytes.now) result }
     ensures leads { Leads (length bytes.now) result }
+    ensures number { NotInterrupted result }
     ensures bytes { (first : Option (List ℕ)) → WroteOn first (W.contents writer.old) bytes.now done
         → WriteLeads first (W.contents writer.new) bytes.now result }
 {

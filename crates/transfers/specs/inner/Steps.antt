@@ -4,6 +4,7 @@ use Rattle.std.specs.Io.KnownBytes.{Keeps, Appends, Consumes, IsAtEnd}
 use Rattle.transfers.specs.declared.Answer.{Answer}
 use Rattle.transfers.specs.declared.Answer.TheVariants.{Moved, Interrupted, Error}
 use Rattle.transfers.specs.declared.Outcome.{Outcome}
+use Rattle.transfers.specs.declared.Outcome.TheVariants.{Whole, Failed}
 use Rattle.transfers.specs.declared.Step.{Step}
 use Rattle.transfers.specs.declared.Step.TheVariants.{Onward, Over}
 use Rattle.transfers.specs.Transfer.{after, bytes_of, ReadWhole, WroteWhole, WroteOn}
@@ -13,11 +14,17 @@ abbrev pub failed : ℤ → Answer
 failed (pos n) = cond (eqb n 4) Interrupted (Error n)
 failed (negsuc n) = Error 0
 
--- a call that is handed so many bytes moves no more, and an interruption is no error
+-- a call that is handed so many bytes moves no more
 abbrev pub Moves : ℕ → Answer → Type 0
 Moves handed (Moved n) = n ≤ handed
 Moves handed Interrupted = Unit {0}
-Moves handed (Error error) = error ≢ 4
+Moves handed (Error error) = Unit {0}
+
+-- an interruption, 4, is no error of a call
+abbrev pub NoInterruption : Answer → Type 0
+NoInterruption (Moved n) = Unit {0}
+NoInterruption Interrupted = Unit {0}
+NoInterruption (Error error) = error ≢ 4
 
 -- a call that failed
 abbrev pub NoneMoved : Answer → Type 0
@@ -47,6 +54,12 @@ pub record Answered (none : ℕ → Outcome) (done room : ℕ) (r : Step) : Type
 abbrev pub Leads : ℕ → Step → Type 0
 Leads room (Onward done) = done ≤ room
 Leads room (Over outcome) = bytes_of outcome ≤ room
+
+-- nor what a step fails by
+abbrev pub NotInterrupted : Step → Type 0
+NotInterrupted (Onward done) = Unit {0}
+NotInterrupted (Over (Whole n)) = Unit {0}
+NotInterrupted (Over (Failed error)) = error ≢ 4
 
 -- the first `done` bytes of the buffer are those that the reader gave since it had `first` left
 abbrev pub ReadOn : Option (List ℕ) → Option (List ℕ) → List ℕ → ℕ → Type 0
