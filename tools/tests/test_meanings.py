@@ -9,7 +9,7 @@ from m2mlib.records import SHEET
 from m2mlib.refusals import refusals
 
 SOURCE = "crates/meanings/src/lib.rt"
-FUNCTION = r'\bfn %s\b.*?put_text\(\s*b"(.*?)"'
+FUNCTION = r'\bfn %s\b.*?text_of\(\s*b"(.*?)"'
 NEXT_LINE = re.compile(r"\\\n\s*")
 KINDS = re.compile(r"^The words of the kinds are (.*?) for any other byte\.", re.M | re.S)
 
@@ -18,7 +18,7 @@ def texts(function):
     """The texts of a function by their numbers: the source has them in one string, each ended by a zero byte."""
     found = re.search(FUNCTION % function, content(SOURCE).decode(), re.S)
     if not found:
-        raise AssertionError(f"{SOURCE}: no put_text(b\"..\") in {function}")
+        raise AssertionError(f"{SOURCE}: no text_of(b\"..\") in {function}")
     *words, rest = NEXT_LINE.sub("", found.group(1)).split("\\0")
     if rest:
         raise AssertionError(f"{SOURCE}: {function}: no zero byte behind '{rest}'")
@@ -30,7 +30,7 @@ class Meanings(unittest.TestCase):
         self.assertTrue(os.path.isfile(os.path.join(ROOT, SOURCE)), f"{SOURCE} is missing")
 
     def test_refusals(self):
-        words = texts("put_meaning")
+        words = texts("meaning")
         self.assertEqual(len(words), max(refusals()) + 1, f"{SOURCE}: a text for each number from 0 on")
         self.assertEqual(words[0], "")
         for number, refusal in refusals().items():
@@ -38,7 +38,7 @@ class Meanings(unittest.TestCase):
 
     def test_kinds(self):
         *kinds, unknown = re.findall("`(.*?)`", KINDS.search(content("docs/FORMAT.md").decode()).group(1))
-        self.assertEqual(texts("put_kind_word"), [unknown, *kinds])
+        self.assertEqual(texts("kind_word"), [unknown, *kinds])
         self.assertEqual(len(kinds), len(SHEET))
 
 

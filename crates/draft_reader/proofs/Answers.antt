@@ -6,7 +6,7 @@ use Rattle.records.specs.Content.{no_content}
 use Rattle.layout.specs.declared.Layout.{Layout}
 use Rattle.drafts.specs.declared.Draft.{Draft}
 use Rattle.drafts.specs.Draft.{draft_of}
-use Rattle.sheet.specs.declared.Outcome.TheVariants.{Accepted, Refused}
+use Rattle.sheet.specs.Sheet.{Accepted, Refused}
 use Rattle.sheet.specs.Sheet.{content_in, read_sheet, content_of}
 use Rattle.sheet.proofs.Answers.{refused_fails, accepted_number, refused_number}
 use Rattle.draft_reader.specs.DraftReader.{drafted_from}

@@ -4,7 +4,6 @@ ghost use Rattle.std.specs.Prelude.{◌≡◌};
 ghost use Rattle.draft_reader.specs.DraftReader.{drafted_from};
 
 use drafts::Draft;
-use sheet::Outcome;
 
 // The number of the refusal, or 0, and the draft: all zeros where the sheet is refused.
 #[repr(C)]
@@ -18,16 +17,13 @@ pub fn read_draft(s: &[u8]) -> Drafted
     ensures { result ≡ drafted_from s.now }
 {
     match sheet::read(s) {
-        Outcome::Refused(number, _) => {
-            let draft = sheet_drafts::no_draft();
-            Drafted {
-                refusal: number,
-                draft,
-            }
-        }
-        Outcome::Accepted(l) => {
-            let draft = sheet_drafts::draft_of(s, l);
-            Drafted { refusal: 0, draft }
-        }
+        Err(refused) => Drafted {
+            refusal: refused.refusal.number(),
+            draft: sheet_drafts::no_draft(),
+        },
+        Ok(accepted) => Drafted {
+            refusal: 0,
+            draft: sheet_drafts::draft_of(&accepted),
+        },
     }
 }

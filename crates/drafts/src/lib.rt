@@ -1,7 +1,7 @@
 #![tactic(auto)]
 // A draft of a sheet: what a planner alters and the writer takes (document 02, requests 3 and 6).
 ghost use Rattle.std.specs.Prelude.{◌≡◌};
-ghost use Rattle.drafts.specs.Draft.{line_of, zone_in, drafted};
+ghost use Rattle.drafts.specs.Draft.{drafted};
 
 use records::{Circulation, Factor, Head, Par, Path, Place, Point, Unit, Zone};
 
@@ -21,7 +21,7 @@ pub const PATHS: usize = record_table::MOST_PATHS + 1;
 
 pub const CIRCULATIONS: usize = record_table::MOST_CIRCULATIONS + 1;
 
-// A point whose place is numbers: a proxy where `line` is 0, else a scheduled line into `zone`.
+// A point whose place is numbers, for the C interface: a proxy where `line` is 0, else a scheduled line into `zone`.
 #[repr(C)]
 #[derive(Clone, Copy)]
 pub struct DraftPoint {
@@ -35,7 +35,7 @@ pub struct DraftPoint {
     pub wheel_out: u32,
 }
 
-// The first records of each array are given, as many as its count says and at most all.
+// The C interface: of each array the first records are given, as many as its count says and at most all.
 #[repr(C)]
 #[derive(Clone, Copy)]
 pub struct Draft {
@@ -56,37 +56,24 @@ pub struct Draft {
     pub circulations: [Circulation; CIRCULATIONS],
 }
 
-fn line_of(p: Place) -> u8
-    ensures { result ≡ line_of p }
-{
-    match p {
-        Place::Proxy => 0,
-        Place::Line(_) => 1,
-    }
-}
+impl From<Point> for DraftPoint {
+    ghost from_gives = { λ p draft. draft ≡ drafted p };
 
-fn zone_in(p: Place) -> u8
-    ensures { result ≡ zone_in p }
-{
-    match p {
-        Place::Proxy => 0,
-        Place::Line(n) => n,
-    }
-}
-
-pub fn draft_point(p: Point) -> DraftPoint
-    ensures { result ≡ drafted p }
-{
-    let name = p.name;
-    let place = p.place;
-    DraftPoint {
-        name,
-        sort: p.sort,
-        line: line_of(place),
-        zone: zone_in(place),
-        import: p.import,
-        export: p.export,
-        wheel_in: p.wheel_in,
-        wheel_out: p.wheel_out,
+    fn from(p: Point) -> DraftPoint {
+        let name = p.name;
+        let (line, zone) = match p.place {
+            Place::Proxy => (0, 0),
+            Place::Line(n) => (1, n),
+        };
+        DraftPoint {
+            name,
+            sort: p.sort,
+            line,
+            zone,
+            import: p.import,
+            export: p.export,
+            wheel_in: p.wheel_in,
+            wheel_out: p.wheel_out,
+        }
     }
 }

@@ -13,8 +13,7 @@ use Rattle.rows.proofs.NotMet.{both}
 use Rattle.due_factors.specs.declared.Counts.{Counts}
 use Rattle.due_factors.specs.declared.Due.{Due}
 use Rattle.due_factors.specs.Due.{key, due_list, no_due, how_many}
-use Rattle.due_factors.specs.inner.Places.{Few, every, pars_on, alike, more_of_run}
-use Rattle.due_factors.proofs.DueList.{whole, in-units, in-zones, in-points, in-pars}
+use Rattle.due_factors.specs.inner.Places.{Few, pars_on, alike, more_of_run}
 use Rattle.due_factors.proofs.Keys.{subjects, many_on, place_at, key_stands, DueThere, due_there}
 
 -- of this one's target and subject
@@ -78,23 +77,9 @@ module _ (n : Counts) (k : ℕ) (below : k < length (due_list n)) where
       rw (get_or-drop (k + 1) (due_list n) m no_due, e m, x) (record { target = refl; subject = refl }))
       (λ g a. last_is (omega (arith, rw (length-drop (k + 1) (due_list n)) at g)) (rw (get_or-drop (k + 1) (due_list n) (many - d.index) no_due, f) at a))
 
-  -- by where it stands among its target's
-  module _ (t p i : ℕ) (e : get_or (whole n t p) i no_due ≡ d) (p-is : pars_on n.pars t ≡ p) where
-    pub more-units : i < n.units → more_of_run n k ≡ n.units - 1 - i
-    unfolding how_many
-    more-units h = more_is ∙ rw (← e, in-units n t p i h) (omega arith)
-
-    pub more-zones : n.units ≤ i → i - n.units < n.zones → more_of_run n k ≡ n.zones - 1 - (i - n.units)
-    unfolding how_many
-    more-zones g h = more_is ∙ rw (← e, in-zones n t p i g h) (omega arith)
-
-    pub more-points : n.units ≤ i → n.zones ≤ i - n.units → i - n.units - n.zones < n.points → more_of_run n k ≡ n.points - 1 - (i - n.units - n.zones)
-    unfolding how_many
-    more-points f g h = more_is ∙ rw (← e, in-points n t p i f g h) (omega arith)
-
-    pub more-pars : every n ≤ i → i - n.units - n.zones - n.points < p → more_of_run n k ≡ p - 1 - (i - n.units - n.zones - n.points)
-    unfolding how_many
-    more-pars g h = more_is ∙ rw (← e, in-pars n t p i g h, p-is) (omega arith)
+  -- by its target and subject
+  pub more_at : (target subject i : ℕ) → key target subject i ≡ d → more_of_run n k ≡ many_on n target subject - (i + 1)
+  more_at target subject i e = more_is ∙ rw (← e)
 
   many_few : Few n → (j : ℕ) → 1 ≤ j → j ≤ 4 → many_on n d.target j ≤ 256
   unfolding how_many

@@ -1,10 +1,11 @@
 #![tactic(auto)]
 // The factors that are due (document 01, 'The interval sheet'): how many, which is behind k others, and where one stands among them.
-ghost use Rattle.std.specs.Prelude.{◌≡◌, ◌++◌, ◌+◌, ◌≤◌, ◌<◌, length, get_or};
-ghost use Rattle.due_factors.specs.Due.{key, each, run, due_list, no_due, Asked};
+ghost use Rattle.std.specs.Prelude.{◌≡◌, ℕ, ◌++◌, ◌+◌, ◌≤◌, ◌<◌, length, get_or};
+ghost use Rattle.records.specs.Codes.{subject_code};
+ghost use Rattle.due_factors.specs.Due.{key, each, run, due_list, no_due, how_many, Asked};
 ghost use Rattle.due_factors.specs.inner.Places.{Few, every, pars_on, offset, standing, place_in, more_of_run};
 
-use records::{PAR, POINT, UNIT, ZONE};
+use records::Subject;
 
 // How many zones, units, points and PARs a sheet has.
 #[derive(Clone, Copy)]
@@ -30,6 +31,14 @@ struct Standing {
     behind: usize,
 }
 
+// A factor's subject, how many of its target's of that subject stand before it, and how many there are.
+#[derive(Clone, Copy)]
+struct Run {
+    subject: Subject,
+    behind: usize,
+    many: usize,
+}
+
 // How many factors each target has but for those of PARs.
 fn every(n: Counts) -> usize
     requires { Few n }
@@ -44,42 +53,6 @@ pub fn due_count(n: Counts) -> usize
 {
     let each = every(n);
     each + n.pars + n.pars * each
-}
-
-// The i-th of a target's factors, from 0: units, zones, points, and as many PARs as have a factor on it.
-fn due_of(target: usize, n: Counts, pars: usize, i: usize) -> Due
-    requires { Few n × (i < every n + pars) × (pars ≤ n.pars) }
-    ensures { result ≡ get_or (each n target ++ run target 4 pars) i no_due }
-{
-    if i < n.units {
-        return Due {
-            target,
-            subject: UNIT,
-            index: i + 1,
-        };
-    }
-    let j = i - n.units;
-    if j < n.zones {
-        return Due {
-            target,
-            subject: ZONE,
-            index: j + 1,
-        };
-    }
-    let k = j - n.zones;
-    if k < n.points {
-        return Due {
-            target,
-            subject: POINT,
-            index: k + 1,
-        };
-    }
-    let q = k - n.points;
-    Due {
-        target,
-        subject: PAR,
-        index: q + 1,
-    }
 }
 
 // How many PARs have a factor on a target.
@@ -108,13 +81,53 @@ fn standing_of(n: Counts, k: usize) -> Standing
     }
 }
 
+// The i-th of a target's factors, from 0: units, zones, points, and as many PARs as have a factor on it.
+fn run_of(n: Counts, pars: usize, i: usize) -> Run
+    requires { Few n × (i < every n + pars) }
+    ensures { ((target : ℕ) → get_or (each n target ++ run target 4 pars) i no_due ≡ key target (subject_code result.subject) result.behind) × (result.many ≡ how_many n.zones n.units n.points pars (subject_code result.subject)) × (result.behind < result.many) × (result.behind ≤ i) }
+{
+    if i < n.units {
+        return Run {
+            subject: Subject::Unit,
+            behind: i,
+            many: n.units,
+        };
+    }
+    let j = i - n.units;
+    if j < n.zones {
+        return Run {
+            subject: Subject::Zone,
+            behind: j,
+            many: n.zones,
+        };
+    }
+    let k = j - n.zones;
+    if k < n.points {
+        return Run {
+            subject: Subject::Point,
+            behind: k,
+            many: n.points,
+        };
+    }
+    Run {
+        subject: Subject::Par,
+        behind: k - n.points,
+        many: pars,
+    }
+}
+
 // The factor that is due behind k others.
 pub fn due_at(n: Counts, k: usize) -> Due
     requires { Few n × (k < length (due_list n)) }
     ensures { result ≡ get_or (due_list n) k no_due }
 {
     let at = standing_of(n, k);
-    due_of(at.target, n, pars_on(at.target, n.pars), at.behind)
+    let run = run_of(n, pars_on(at.target, n.pars), at.behind);
+    Due {
+        target: at.target,
+        subject: run.subject.code(),
+        index: run.behind + 1,
+    }
 }
 
 // How many of its target and subject are due behind that one.
@@ -123,39 +136,28 @@ pub fn more_of_run(n: Counts, k: usize) -> usize
     ensures { result ≡ more_of_run n k }
 {
     let at = standing_of(n, k);
-    let i = at.behind;
-    if i < n.units {
-        return n.units - 1 - i;
-    }
-    let j = i - n.units;
-    if j < n.zones {
-        return n.zones - 1 - j;
-    }
-    let k = j - n.zones;
-    if k < n.points {
-        return n.points - 1 - k;
-    }
-    let q = k - n.points;
-    pars_on(at.target, n.pars) - 1 - q
+    let run = run_of(n, pars_on(at.target, n.pars), at.behind);
+    run.many - 1 - run.behind
 }
 
 // Where a subject's factors begin among a target's.
-fn offset_of(n: Counts, subject: u8) -> usize
+#[tactic(auto, unfolding(crate::specs::inner::Places::offset))]
+fn offset_of(n: Counts, subject: Subject) -> usize
     requires { Few n }
-    ensures { result ≡ offset n subject }
+    ensures { result ≡ offset n (subject_code subject) }
 {
     match subject {
-        1 => 0,
-        2 => n.units,
-        3 => n.units + n.zones,
-        _ => every(n),
+        Subject::Unit => 0,
+        Subject::Zone => n.units,
+        Subject::Point => n.units + n.zones,
+        Subject::Par => every(n),
     }
 }
 
 // Where a factor stands among those that are due, from 0; its index, too, from 0.
-pub fn place_of(n: Counts, target: usize, subject: u8, i: usize) -> usize
-    requires { Few n × Asked n.zones n.units n.points n.pars target subject i }
-    ensures { result ≡ place_in (due_list n) (key target subject i) }
+pub fn place_of(n: Counts, target: usize, subject: Subject, i: usize) -> usize
+    requires { Few n × Asked n.zones n.units n.points n.pars target (subject_code subject) i }
+    ensures { result ≡ place_in (due_list n) (key target (subject_code subject) i) }
 {
     let offset = offset_of(n, subject);
     if target == 0 {

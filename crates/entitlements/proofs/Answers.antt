@@ -13,7 +13,7 @@ use Rattle.integers.proofs.Cases.{below_or}
 use Rattle.names.specs.Names.{same_list}
 use Rattle.names.proofs.SameNames.{same_refl, same_true}
 use Rattle.entitlements.specs.Entitlements.{Entry, record_length, most_records, most_value, any_fault, row14, entries_from, entries_of, look_up, entitlement}
-use Rattle.entitlements.specs.declared.Entitlement.TheVariants.{Found, Refused}
+use Rattle.entitlements.specs.Entitlements.{Found, Refused}
 use Rattle.entitlements.proofs.RecordFault.{either}
 use Rattle.entitlements.proofs.ByRecord.{Pass, none, one, pass_from}
 use Rattle.entitlements.proofs.Passed.{Holds, sound, first_differs, too_long}

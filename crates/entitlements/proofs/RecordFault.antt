@@ -71,9 +71,9 @@ module _ (es : List (List ℕ)) (k : ℕ) (r : List ℕ) where
   unfolding record_fault
   fault_twice e = rw (e, or-true)
 
-  -- of a whole record with a new name, where there is room for it, kind, name and value are left to test; the last two are tested together
-  pub fault_new : body_length ≤ length r → length es < most_records → seen_before es (entry_of r).name ≡ false →
-      record_fault es k r ≡ (not (eqb k entry_kind) || (bad_name (entry_of r).name || beyond most_value (entry_of r).value))
+  -- of a whole record with a new name, where there is room for it, kind, name and value are left to test; b tests the last two together
+  pub fault_new : {b : Bool} → body_length ≤ length r → length es < most_records → seen_before es (entry_of r).name ≡ false →
+      b ≡ (bad_name (entry_of r).name || beyond most_value (entry_of r).value) → record_fault es k r ≡ (not (eqb k entry_kind) || b)
   unfolding record_fault
-  fault_new h g e =
-      rw (le-ltb (length r) body_length h, lt-leb most_records (length es) g, e, or-false, or-false) (or_assoc (not (eqb k entry_kind)) (bad_name (entry_of r).name) (beyond most_value (entry_of r).value))
+  fault_new h g e t =
+      rw (le-ltb (length r) body_length h, lt-leb most_records (length es) g, e, or-false, or-false, t) (or_assoc (not (eqb k entry_kind)) (bad_name (entry_of r).name) (beyond most_value (entry_of r).value))

@@ -1,10 +1,10 @@
 -- The entitlement list (document 01, 'The interval sheet'): its entries, rows 14 and 15.
-use Rattle.std.specs.Prelude.{ℕ, zero, suc, ◌+◌, Bool, false, not, ◌||◌, cond, List, [], ◌∷◌, eqb, leb, ℤ, length}
+use Rattle.std.specs.Prelude.{ℕ, zero, suc, ◌+◌, Bool, false, not, ◌||◌, cond, List, [], ◌∷◌, eqb, leb, ℤ, Result, Ok, Err, length}
 use Rattle.fields.specs.Fields.{sbe32}
 use Rattle.rows.specs.Rows.{cut_short, beyond}
+use Rattle.rows.specs.Refusals.{number}
+use Rattle.rows.specs.declared.Refusal.{Refusal}
 use Rattle.names.specs.Names.{bad_name, same_list, seen_before, name_at}
-use Rattle.entitlements.specs.declared.Entitlement.{Entitlement}
-use Rattle.entitlements.specs.declared.Entitlement.TheVariants.{Found, Refused}
 
 -- a flowgate's name, and the Non-Monitoring RTO's entitlement in tenths of a MW
 pub record Entry : Type 0 where
@@ -61,6 +61,16 @@ entries_from zero (k ∷ r) = entry_of r ∷ entries_from body_length r
 
 abbrev pub entries_of : List ℕ → List Entry
 entries_of s = entries_from 0 s
+
+-- what a list says of a flowgate: the entitlement, or the refusal's number
+pub data Entitlement : Type 0 where
+  Found : ℤ → Entitlement
+  Refused : ℕ → Entitlement
+
+-- what the code's answer says
+abbrev pub entitlement_of : Result ℤ Refusal → Entitlement
+entitlement_of (Ok value) = Found value
+entitlement_of (Err refusal) = Refused (number refusal)
 
 -- row 15: no entry bears the name
 unfoldable pub look_up : List Entry → List ℕ → Entitlement

@@ -1,20 +1,13 @@
 #![tactic(auto)]
 // The entitlement list (document 01, 'The interval sheet'), rows 14 and 15.
-ghost use Rattle.std.specs.Prelude.{◌≡◌, false, ◌||◌, ◌+◌, ◌*◌, ◌≤◌, ◌<◌, length};
+ghost use Rattle.std.specs.Prelude.{◌≡◌, false, ◌||◌, ◌≤◌, ◌<◌, cond, length, replicate};
 ghost use Rattle.rows.specs.Rows.{beyond};
 ghost use Rattle.names.specs.Names.{bad_name};
-ghost use Rattle.name_index.specs.inner.Index.{Indexed};
-ghost use Rattle.entitlements.specs.Entitlements.{body_length, record_length, most_value, entry_of, row14, entries_of, look_up, entitlement};
-ghost use Rattle.entitlements.specs.inner.Steps.{run_of, Roomy, Judged};
+ghost use Rattle.entitlements.specs.Entitlements.{body_length, most_value, entry_of, row14, entries_of, look_up, entitlement, entitlement_of};
+ghost use Rattle.entitlements.specs.inner.Steps.{Roomy};
 
 use name_index::Run;
-
-// What the list says of a flowgate: the Non-Monitoring RTO's entitlement in tenths of a MW, or the refusal's number.
-#[derive(Clone, Copy)]
-pub enum Entitlement {
-    Found(i64),
-    Refused(u8),
-}
+use rows::{Refusal, row};
 
 // A record is one byte of kind and a body: name 16, entitlement 4.
 const KIND: u8 = 0x10;
@@ -39,103 +32,82 @@ const LARGE_MASK: usize = 4095;
 const LARGE_TABLE: usize = LARGE_MASK + 1 + MOST_RECORDS;
 
 // The entitlement that a body holds.
+#[tactic(auto, unfolding(crate::specs::Entitlements::entry_of))]
 fn value_of(body: &[u8]) -> i64
     requires { body_length ≤ length body.now }
     ensures { result ≡ (entry_of body.now).value }
 {
-    fields::sbe32_at(body, 16) as i64
+    i64::from(fields::sbe32_at(body, 16))
 }
 
 // Whether a body's name or its value meets row 14.
+#[tactic(auto, unfolding(crate::specs::Entitlements::entry_of))]
 fn entry_fault(body: &[u8]) -> bool
     requires { body_length ≤ length body.now }
     ensures { result ≡ (bad_name (entry_of body.now).name || beyond most_value (entry_of body.now).value) }
 {
-    let size = integers::magnitude(value_of(body));
-    !names::name_ok_at(body, 0) | (MOST_VALUE < size)
+    !names::name_ok_at(body, 0) | (MOST_VALUE < value_of(body).unsigned_abs())
 }
 
-// Whether the record at `at`, behind n others, meets row 14; if it does not, the table holds its name with theirs.
-fn record_fault(list: &[u8], at: usize, n: usize, mask: usize, table: &mut [u16]) -> bool
-    requires { (at ≡ record_length * n) × (at < length list.now) × Roomy mask list.now (length table.old) × Indexed list.now (run_of mask n) table.old }
-    ensures { Judged mask list.now at n result table.new }
+// Row 14 on each record. The table, all zeros, has hashes up to the mask, and room for each name.
+// No const parameter: two copies of this function call what one has inlined, and take 1.5 times as long.
+fn check_with(list: &[u8], mask: usize, table: &mut [u16]) -> Result<(), Refusal>
+    requires { (table.old ≡ replicate (length table.old) 0) × (mask < length table.old) × Roomy mask list.now (length table.old) }
+    ensures { result ≡ cond (row14 list.now) (Err Refusal.BadList) (Ok tt) }
 {
-    let from = at + 1;
-    if list.len() - from < BODY {
-        return true;
+    for n in 0..list.len().div_ceil(RECORD) {
+        let at = RECORD * n;
+        let from = at + 1;
+        row(Refusal::BadList, list.len() - from < BODY)?;
+        row(Refusal::BadList, MOST_RECORDS <= n)?;
+        let run = Run {
+            first: 1,
+            stride: RECORD,
+            count: n,
+            base: 0,
+            mask,
+        };
+        let repeated = name_index::seen_before(list, from, run, table);
+        row(Refusal::BadList, repeated)?;
+        let unfit = (list[at] != KIND) | entry_fault(&list[from..]);
+        row(Refusal::BadList, unfit)?;
     }
-    if MOST_RECORDS <= n {
-        return true;
-    }
-    let run = Run {
-        first: 1,
-        stride: RECORD,
-        count: n,
-        base: 0,
-        mask: mask,
-    };
-    if name_index::seen_before(list, from, run, table) {
-        return true;
-    }
-    (list[at] != KIND) | entry_fault(&list[from..])
+    Ok(())
 }
 
-// Whether a record of the list meets row 14. The table, in which there is no name yet, has room for each.
-fn any_fault(list: &[u8], mask: usize, table: &mut [u16]) -> bool
-    requires { Roomy mask list.now (length table.old) × Indexed list.now (run_of mask 0) table.old }
-    ensures { result ≡ row14 list.now }
-{
-    let mut at = 0;
-    let mut n = 0;
-    while at < list.len() {
-        if record_fault(list, at, n, mask, table) {
-            return true;
-        }
-        at += RECORD;
-        n += 1;
-    }
-    false
-}
-
-// Whether a record of the list meets row 14.
-fn faulty(list: &[u8]) -> bool
-    ensures { result ≡ row14 list.now }
+// Row 14.
+fn check(list: &[u8]) -> Result<(), Refusal>
+    ensures { result ≡ cond (row14 list.now) (Err Refusal.BadList) (Ok tt) }
 {
     if list.len() <= FEW * RECORD {
-        let mut small = [0u16; SMALL_TABLE];
-        return any_fault(list, SMALL_MASK, &mut small);
+        check_with(list, SMALL_MASK, &mut [0; SMALL_TABLE])
+    } else {
+        check_with(list, LARGE_MASK, &mut [0; LARGE_TABLE])
     }
-    let mut large = [0u16; LARGE_TABLE];
-    any_fault(list, LARGE_MASK, &mut large)
 }
 
-// The entitlement of the entry that bears the name, or 15, in a list that passes row 14.
-fn look_up(entries: &[u8], name: &[u8]) -> Entitlement
+// The entitlement of the entry that bears the name, or row 15, in a list that passes row 14.
+fn look_up(entries: &[u8], name: &[u8]) -> Result<i64, Refusal>
     requires { row14 entries.now ≡ false }
-    ensures { result ≡ look_up (entries_of entries.now) name.now }
+    ensures { entitlement_of result ≡ look_up (entries_of entries.now) name.now }
 {
-    if name.len() != 16 {
-        return Entitlement::Refused(15);
-    }
+    row(Refusal::NoEntitlement, name.len() != 16)?;
     let high = fields::be64_at(name, 0);
     let low = fields::be64_at(name, 8);
-    let mut at = 0;
-    while at < entries.len() {
-        let from = at + 1;
+    for n in 0..entries.len() / RECORD {
+        let from = RECORD * n + 1;
         if names::has_words(entries, from, high, low) {
-            return Entitlement::Found(value_of(&entries[from..]));
+            return Ok(value_of(&entries[from..]));
         }
-        at += RECORD;
     }
-    Entitlement::Refused(15)
+    Err(Refusal::NoEntitlement)
 }
 
 // What the list says of the flowgate of that name. Row 14 is about the whole list, and goes before 15.
-pub fn find(list: &[u8], name: &[u8]) -> Entitlement
-    ensures { result ≡ entitlement list.now name.now }
+#[tactic(auto, unfolding(crate::specs::Entitlements::entitlement))]
+pub fn find(list: &[u8], name: &[u8]) -> Result<i64, Refusal>
+    ensures { entitlement_of result ≡ entitlement list.now name.now }
 {
-    if faulty(list) {
-        return Entitlement::Refused(14);
-    }
+    check(list)?;
     look_up(list, name)
 }

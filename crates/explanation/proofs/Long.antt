@@ -9,18 +9,16 @@ use lib.Seq.{take_all, get_or-take, length-take-le}
 use Rattle.fields.specs.Fields.{byte_at}
 use Rattle.integers.proofs.Cases.{below_or}
 use Rattle.record_table.specs.inner.Sizes.{most_size}
-use Rattle.records.specs.Content.{Content}
-use Rattle.sheet.specs.declared.Outcome.{Outcome}
-use Rattle.sheet.specs.declared.Outcome.TheVariants.{Accepted, Refused}
+use Rattle.sheet.specs.Sheet.{Outcome}
+use Rattle.sheet.specs.Sheet.{Accepted, Refused}
 use Rattle.sheet.specs.Sheet.{read_sheet, content_of}
 use Rattle.sheet.specs.inner.Longest.{longest_sheet, deciding}
 use Rattle.sheet.proofs.Long as sheets
 use Rattle.sheet.proofs.Refusal.{refusal}
 use Rattle.entitlements.proofs.Answers as lists
-use Rattle.settlement.specs.Settled.{inputs, flowgate, after_sheet}
-use Rattle.explanation.specs.declared.Finding.{Finding}
-use Rattle.explanation.specs.declared.Reason.TheVariants.{None}
-use Rattle.explanation.specs.Explanation.{shown_bytes, part_end, behind_records, explained}
+use Rattle.settlement.specs.Settled.{flowgate, after_sheet}
+use Rattle.explanation.specs.Explanation.{None}
+use Rattle.explanation.specs.Explanation.{part_end, explained}
 use Rattle.explanation.proofs.Parts.{ends_whole, shown_most}
 use Rattle.explanation.proofs.Promised.{by_outcome, explained_is}
 

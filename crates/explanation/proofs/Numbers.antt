@@ -1,6 +1,6 @@
 -- Which numbers a sheet and what follows it are refused by: never row 23.
 use Prim.Native.Nat.{ℕ, ◌≤◌, ◌+◌}
-use mathlib.Core.Path.{◌≡◌, refl}
+use mathlib.Core.Path.{◌≡◌}
 use mathlib.Core.Bool.{Bool, true, false, cond, not, ◌||◌}
 use mathlib.Core.List.{List, [], ◌∷◌}
 use native.Mathlib.Omega.{arith}
@@ -19,8 +19,8 @@ use Rattle.due_factors.specs.Due.{counts_of}
 use Rattle.record_rows.specs.Rows.{no_zone_or_unit, still_due, lake_in_part, end_row, last_row}
 use Rattle.sheet.specs.inner.Answers.{row_at, Refuses}
 use Rattle.sheet.proofs.Numbers.{record_most}
-use Rattle.entitlements.specs.declared.Entitlement.{Entitlement}
-use Rattle.entitlements.specs.declared.Entitlement.TheVariants as found
+use Rattle.entitlements.specs.Entitlements.{Entitlement}
+use Rattle.entitlements.specs.Entitlements as found
 use Rattle.entitlements.specs.Entitlements.{Entry, row14, entries_of, look_up, entitlement}
 use Rattle.figures.specs.Balance.{gross_load, gross_output, none_below_zero, zone_load, final_load, zone_generation, net_generation, final_generation, balance_row}
 use Rattle.figures.specs.Flow.{most_flow, flow_row}

@@ -8,7 +8,7 @@ use borrow.Author.Tests.{le-leb, lt-leb}
 use Rattle.fields.specs.Fields.{byte_at}
 use Rattle.integers.proofs.Cases.{below_or}
 use Rattle.record_table.specs.Table.{body_length}
-use Rattle.record_table.specs.inner.Sizes.{size, most_size}
+use Rattle.record_table.specs.inner.Sizes.{most_size}
 use Rattle.record_table.proofs.ByKind.{size_most}
 use Rattle.sheet.specs.inner.Answers.{Refuses}
 use Rattle.sheet.proofs.Refusal.{points}

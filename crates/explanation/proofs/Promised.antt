@@ -1,19 +1,17 @@
 -- The definition keeps the promise.
 use Prim.Native.Nat.{ℕ, ◌+◌, ◌≤◌, ◌<◌}
 use mathlib.Core.Path.{◌≡◌, refl, sym, ap, ◌∙◌}
-use mathlib.Core.Bool.{Bool, true, false, cond}
 use mathlib.Core.List.{List}
 use mathlib.Core.Logic.{◌⊎◌, inl, inr, ⊎_elim}
 use native.Mathlib.Omega.{arith}
-use lib.Dec.{eqb}
-use lib.IntN.{ℤ, ◌-ℤ◌}
+use lib.IntN.{ℤ}
 use lib.ListN.{length}
 use borrow.Author.Tests.{eq-eqb, ne_eqb, lt-ltb}
 use Rattle.record_table.specs.inner.Sizes.{most_size}
 use Rattle.records.specs.Content.{Content, no_content, head}
 use Rattle.record_rows.specs.Rows.{first_row}
-use Rattle.sheet.specs.declared.Outcome.{Outcome}
-use Rattle.sheet.specs.declared.Outcome.TheVariants.{Accepted, Refused}
+use Rattle.sheet.specs.Sheet.{Outcome}
+use Rattle.sheet.specs.Sheet.{Accepted, Refused}
 use Rattle.sheet.specs.Sheet.{Reading, holds, fails, reading, outcome, read_sheet, content_in, content_of}
 use Rattle.sheet.specs.Passed.{none}
 use Rattle.sheet.specs.inner.Answers.{row_at, Refuses}
@@ -21,16 +19,16 @@ use Rattle.sheet.proofs.Passing.{passed_within}
 use Rattle.sheet.proofs.Answers.{kept}
 use Rattle.sheet.proofs.Refusal.{refusal, refused_some}
 use Rattle.figures.specs.Lake.{settlement_flow}
-use Rattle.figures.specs.Payment.{in_watts, difference, price}
+use Rattle.figures.specs.Payment.{in_watts, difference}
 use Rattle.statement.specs.declared.Statement.{Statement}
-use Rattle.settlement.specs.Settled.{inputs, figures_at, after_sheet, by_sheet, interval, settled}
+use Rattle.settlement.specs.Settled.{inputs, figures_at, after_sheet, settled}
 use Rattle.settlement.specs.declared.Interval.{Interval}
 use Rattle.settlement.proofs.Read as settlement
 use Rattle.settlement.proofs.Promised.{accepted_of}
-use Rattle.explanation.specs.declared.Finding.{Finding}
-use Rattle.explanation.specs.declared.Reason.TheVariants.{None}
+use Rattle.explanation.specs.Explanation.{Finding}
+use Rattle.explanation.specs.Explanation.{None}
 use Rattle.explanation.specs.Explanation.{side_of, part_end, behind_records, by_reading, explained}
-use Rattle.explanation.specs.Promise.{Before, Meets, MeetsFirst, Part, price_for, Reasoned, Promise}
+use Rattle.explanation.specs.Promise.{Before, Meets, MeetsFirst, Part, Reasoned, Promise}
 use Rattle.explanation.proofs.Parts.{part_within, part_short, first_part, record_part, behind_part}
 use Rattle.explanation.proofs.Reasons.{side_prices}
 use Rattle.explanation.proofs.Numbers.{sheet_not_23, settled_behind}

@@ -1,5 +1,5 @@
 -- The reason gives the price.
-use mathlib.Core.Path.{◌≡◌, refl, ◌∙◌}
+use mathlib.Core.Path.{◌≡◌, refl}
 use mathlib.Core.Bool.{Bool, true, false, cond}
 use lib.IntN.{ℤ, pos, ◌-ℤ◌}
 use lib.Signed.{◌≤ℤ◌, ◌<ℤ◌, lt_z}
@@ -9,7 +9,7 @@ use Rattle.integers.proofs.Machine.{lt_true, lt_false}
 use Rattle.records.specs.declared.Head.{Head}
 use Rattle.figures.specs.Payment.{price}
 use Rattle.figures.proofs.Payments.{price_above, price_below, price_zero}
-use Rattle.explanation.specs.declared.Reason.TheVariants.{Above, Below, At}
+use Rattle.explanation.specs.Explanation.{Above, Below, At}
 use Rattle.explanation.specs.Explanation.{side_of}
 use Rattle.explanation.specs.Promise.{price_for}
 

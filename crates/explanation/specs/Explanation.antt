@@ -6,9 +6,20 @@ use Rattle.record_table.specs.Table.{body_length}
 use Rattle.sheet.specs.Sheet.{Reading, holds, fails, reading}
 use Rattle.statement.specs.declared.Statement.{Statement}
 use Rattle.settlement.specs.Settled.{inputs, after_sheet}
-use Rattle.explanation.specs.declared.Reason.{Reason}
-use Rattle.explanation.specs.declared.Reason.TheVariants.{None, Above, Below, At}
-use Rattle.explanation.specs.declared.Finding.{Finding}
+
+-- the reason for the price: the flow paid on is above, below or at the entitlement. A refusal has none
+pub data Reason : Type 0 where
+  None : Reason
+  Above : Reason
+  Below : Reason
+  At : Reason
+
+-- the settlement's number, 0 of an accepted interval; where the part of the sheet that holds the offending record begins and ends
+pub record Finding : Type 0 where
+  pub refusal : ℕ
+  pub from : ℕ
+  pub to : ℕ
+  pub reason : Reason
 
 -- the flow paid on is above, below or at the entitlement, both in watts
 unfoldable pub side_of : ℤ → ℤ → Reason

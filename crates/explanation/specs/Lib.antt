@@ -1,2 +1,3 @@
 pub mod Explanation
+pub mod Found
 pub mod Promise

@@ -7,14 +7,14 @@ use Rattle.records.specs.Content.{Content, head}
 use Rattle.record_rows.specs.Rows.{first_row, record_row}
 use Rattle.sheet.specs.Sheet.{holds, reading}
 use Rattle.sheet.specs.Passed.{Passed}
-use Rattle.entitlements.specs.declared.Entitlement.TheVariants.{Found}
+use Rattle.entitlements.specs.Entitlements.{Found}
 use Rattle.entitlements.specs.Entitlements.{entitlement}
 use Rattle.figures.specs.Lake.{settlement_flow}
 use Rattle.figures.specs.Payment.{in_watts}
 use Rattle.settlement.specs.Settled.{flowgate, settled}
-use Rattle.explanation.specs.declared.Reason.{Reason}
-use Rattle.explanation.specs.declared.Reason.TheVariants.{None, Above, Below, At}
-use Rattle.explanation.specs.declared.Finding.{Finding}
+use Rattle.explanation.specs.Explanation.{Reason}
+use Rattle.explanation.specs.Explanation.{None, Above, Below, At}
+use Rattle.explanation.specs.Explanation.{Finding}
 use Rattle.explanation.specs.Explanation.{side_of, explained}
 
 -- all records before a place pass their rows

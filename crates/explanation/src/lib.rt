@@ -1,52 +1,55 @@
 #![tactic(auto)]
 // Which record refuses a sheet, and the reason for the price of an accepted one (document 02, request 7).
 ghost use Rattle.std.specs.Prelude.{◌≡◌, ◌≤◌, length};
-ghost use Rattle.explanation.specs.Explanation.{side_of, part_end, behind_records, part_of, explained};
+ghost use Rattle.rows.specs.Refusals.{number};
+ghost use Rattle.explanation.specs.Explanation.{behind_records, part_end, side_of, part_of, explained};
+ghost use Rattle.explanation.specs.Found.{found, reason_of};
+ghost use Rattle.settlement.specs.declared.Interval.{Interval as Settled};
+ghost use Rattle.settlement.specs.inner.Parts.{Settles};
 ghost use Rattle.explanation.specs.Promise.{Promise};
 
-use statement::Statement;
+use rows::Refusal;
+use settlement::Interval;
+use std::cmp::Ordering;
 
-// The reason for the price: the flow paid on is above, below or at the entitlement. A refusal has none.
-#[derive(Clone, Copy)]
-pub enum Reason {
-    None,
+// The reason for the price: the flow paid on is above, below or at the entitlement.
+#[derive(Clone, Copy, Debug, PartialEq, Eq)]
+pub enum Side {
     Above,
     Below,
     At,
 }
 
-// The settlement's number, 0 of an accepted interval; where the part of the sheet that holds the offending record begins and
-// ends.
+// The settlement's refusal, or the reason for the price of an accepted interval; where the part of the sheet that holds the
+// offending record begins and ends.
 #[derive(Clone, Copy)]
 pub struct Finding {
-    pub refusal: u8,
+    pub reason: Result<Side, Refusal>,
     pub from: usize,
     pub to: usize,
-    pub reason: Reason,
 }
 
-fn side_of(flow: i64, entitlement: i64) -> Reason
-    ensures { result ≡ side_of flow entitlement }
+#[tactic(auto, unfolding(crate::specs::Explanation::side_of))]
+fn side_of(flow: i64, entitlement: i64) -> Side
+    ensures { reason_of result ≡ side_of flow entitlement }
 {
-    if entitlement < flow {
-        return Reason::Above;
+    match flow.cmp(&entitlement) {
+        Ordering::Greater => Side::Above,
+        Ordering::Less => Side::Below,
+        Ordering::Equal => Side::At,
     }
-    if flow < entitlement {
-        return Reason::Below;
-    }
-    Reason::At
 }
 
 // Where the part that begins at a place ends.
-fn part_end(sheet: &[u8], refusal: u8, from: usize) -> usize
+fn part_end(sheet: &[u8], refusal: Refusal, from: usize) -> usize
     requires { from ≤ length sheet.now }
-    ensures { result ≡ part_end sheet.now refusal from }
+    ensures { result ≡ part_end sheet.now (number refusal) from }
 {
     let left = sheet.len() - from;
     if left == 0 {
         return from;
     }
-    if refusal <= 2 {
+    if refusal.number() <= 2 {
         return from + 1;
     }
     let body = record_table::body_length(sheet[from]);
@@ -56,44 +59,34 @@ fn part_end(sheet: &[u8], refusal: u8, from: usize) -> usize
     from + 1 + body
 }
 
-// Behind the last record, by the statement of a sheet whose records all pass.
-fn behind_records(end: usize, s: Statement) -> Finding
-    ensures { result ≡ behind_records end s }
+// Behind the last record, by the settlement of a sheet whose records all pass.
+fn behind_records(end: usize, settled: &Result<Interval, Refusal>) -> Finding
+    ensures { (i : Settled) → Settles settled.now i → found result ≡ behind_records end i.statement }
 {
-    if s.refusal != 0 {
-        return Finding {
-            refusal: s.refusal,
-            from: end,
-            to: end,
-            reason: Reason::None,
-        };
-    }
-    let reason = side_of(s.settled, s.entitlement);
+    let reason = match settled {
+        Ok(i) => Ok(side_of(i.statement.settled, i.statement.entitlement)),
+        Err(refusal) => Err(*refusal),
+    };
     Finding {
-        refusal: 0,
+        reason,
         from: end,
         to: end,
-        reason,
     }
 }
 
 // The refusal of any two byte strings with the part that it is about, or the reason of an accepted interval.
 pub fn locate(sheet: &[u8], list: &[u8]) -> Finding
-    ensures { Promise sheet.now list.now result }
+    ensures { Promise sheet.now list.now (found result) }
 {
     match sheet::read(sheet) {
-        sheet::Outcome::Refused(refusal, from) => {
-            let to = part_end(sheet, refusal, from);
-            Finding {
-                refusal,
-                from,
-                to,
-                reason: Reason::None,
-            }
-        }
-        sheet::Outcome::Accepted(l) => {
-            let i = settlement::settle_sheet(sheet, l, list);
-            behind_records(sheet.len(), i.statement)
+        Err(refused) => Finding {
+            reason: Err(refused.refusal),
+            from: refused.place,
+            to: part_end(sheet, refused.refusal, refused.place),
+        },
+        Ok(accepted) => {
+            let settled = settlement::settle_sheet(&accepted, list);
+            behind_records(sheet.len(), &settled)
         }
     }
 }
@@ -103,7 +96,5 @@ pub fn explain<'a>(sheet: &'a [u8], list: &[u8]) -> &'a [u8]
     ensures { result.now ≡ part_of sheet.now (explained sheet.now list.now) }
 {
     let f = locate(sheet, list);
-    let from = f.from;
-    let to = f.to;
-    &sheet[from..to]
+    &sheet[f.from..f.to]
 }

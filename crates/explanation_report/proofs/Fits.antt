@@ -1,8 +1,7 @@
 -- What is located can be printed.
-use mathlib.Core.Path.{◌≡◌}
 use mathlib.Core.List.{List}
 use Prim.Native.Nat.{ℕ}
-use Rattle.explanation.specs.declared.Finding.{Finding}
+use Rattle.explanation.specs.Explanation.{Finding}
 use Rattle.explanation.specs.Promise.{Promise}
 use Rattle.explanation.proofs.Promised.{explained_short}
 use Rattle.explanation_report.specs.inner.Whole.{Fits}

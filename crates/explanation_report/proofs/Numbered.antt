@@ -1,7 +1,7 @@
 -- The number that is printed of an offending record is the one within its kind: one more than the records of its kind that pass before it.
 use Prim.Native.Nat.{ℕ, ◌+◌, ◌≤◌, ◌<◌}
-use mathlib.Core.Path.{◌≡◌, refl, sym, ap, ◌∙◌}
-use mathlib.Core.Bool.{Bool, true, false, cond}
+use mathlib.Core.Path.{◌≡◌, refl, ap, ◌∙◌}
+use mathlib.Core.Bool.{cond}
 use mathlib.Core.List.{List}
 use native.Mathlib.Omega.{arith}
 use borrow.Author.Tests.{lt-leb, eq-eqb, ne_eqb}
@@ -10,7 +10,7 @@ use lib.ListN.{length, take, drop}
 use lib.Seq.{get_or-take, length-take-le}
 use Rattle.fields.specs.Fields.{byte_at}
 use Rattle.integers.proofs.Cases.{equal_or}
-use Rattle.record_table.specs.Table.{last_kind, body_length, body_in}
+use Rattle.record_table.specs.Table.{last_kind, body_in}
 use Rattle.record_table.proofs.ByKind.{kinds}
 use Rattle.records.specs.Content.{Content, no_content, count_of, with_record}
 use Rattle.layout.specs.declared.Layout.{Layout}
@@ -18,7 +18,7 @@ use Rattle.layout.specs.Layout.{layout_of}
 use Rattle.layout.specs.inner.Places.{count}
 use Rattle.layout.proofs.Places.{count_same, count_other}
 use Rattle.sheet.specs.Passed.{Passed, none, more}
-use Rattle.sheet.proofs.Passing.{passed_within, layout_with, fronted}
+use Rattle.sheet.proofs.Passing.{layout_with, fronted}
 use Rattle.record_numbers.specs.RecordNumbers.{records_of, record_number}
 use Rattle.record_numbers.proofs.Counted.{remaining, remaining_none, remaining_next}
 

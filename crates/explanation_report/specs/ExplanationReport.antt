@@ -6,10 +6,7 @@ use Rattle.printout.specs.Listing.{refusal_line}
 use Rattle.meanings.specs.Meanings.{meaning}
 use Rattle.record_numbers.specs.RecordNumbers.{record_number}
 use Rattle.record_lines.specs.RecordLines.{text_line, record_lines}
-use Rattle.explanation.specs.declared.Reason.{Reason}
-use Rattle.explanation.specs.declared.Reason.TheVariants.{None, Above, Below, At}
-use Rattle.explanation.specs.declared.Finding.{Finding}
-use Rattle.explanation.specs.Explanation.{part_of, explained}
+use Rattle.explanation.specs.Explanation.{Reason, None, Above, Below, At, Finding, part_of, explained}
 
 unfoldable pub side_word : Reason → List ℕ
 side_word None = []

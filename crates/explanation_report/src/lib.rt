@@ -1,76 +1,80 @@
 #![tactic(auto)]
 // What the program `explain` prints: which record refuses a sheet and why, or the reason for the price of an accepted one.
-ghost use Rattle.std.specs.Prelude.{◌≡◌, ◌+◌, ◌*◌, ◌≤◌, length};
+ghost use Rattle.std.specs.Prelude.{◌≡◌, ◌+◌, ◌*◌, ◌≤◌, ◌++◌, length};
 ghost use Rattle.io.specs.Counts.{IsPrefixLen};
 ghost use Rattle.writers.specs.Written.{written};
-ghost use Rattle.writers.specs.inner.Prepended.{Prepended};
-ghost use Rattle.writers.specs.inner.Wrote.{Wrote};
 ghost use Rattle.lines.specs.inner.Room.{line_room};
+ghost use Rattle.rows.specs.Refusals.{number, row_of};
+ghost use Rattle.explanation.specs.Found.{found, reason_of};
 ghost use Rattle.explanation_report.specs.ExplanationReport.{side_word, accepted_lines, front_lines, refused_lines, explanation_lines, explain_output};
 ghost use Rattle.explanation_report.specs.inner.Whole.{Fits};
 
-use explanation::{Finding, Reason};
-use lines::{put_count_line, put_refusal};
-use writers::{put, put_bytes};
+use explanation::{Finding, Side};
+use lines::{put_line, put_refusal};
+use rows::Refusal;
+use writers::{Text, put};
 
 // Room for whatever the program prints: 16 lines, of which the meaning takes five, the record eight.
 pub const OUTPUT_ROOM: usize = 16 * lines::LINE;
 
-// Of no reason nothing.
-fn put_side(reason: Reason, out: &mut [u8], at: usize) -> usize
-    requires { (line_room ≤ at) × (at ≤ length out.old) }
-    ensures prepended { Prepended (side_word reason) out.old at out.new result }
-    ensures at_bound { at ≤ result + line_room }
+#[tactic(auto, unfolding(crate::specs::ExplanationReport::side_word, writers::specs::Text::ascii))]
+fn side_word(side: Side) -> &'static [u8]
+    ensures value { result.now ≡ side_word (reason_of side) }
+    ensures room { length result.now ≤ line_room }
 {
-    match reason {
-        Reason::None => at,
-        Reason::Above => put_bytes(b"above", out, at),
-        Reason::Below => put_bytes(b"below", out, at),
-        Reason::At => put_bytes(b"at", out, at),
+    match side {
+        Side::Above => b"above",
+        Side::Below => b"below",
+        Side::At => b"at",
     }
 }
 
-fn put_accepted(reason: Reason, out: &mut [u8], at: usize) -> usize
-    requires { (4 * line_room ≤ at) × (at ≤ length out.old) }
-    ensures { Prepended (accepted_lines reason) out.old at out.new result }
+#[tactic(auto, unfolding(crate::specs::ExplanationReport::accepted_lines, writers::specs::Text::ascii))]
+fn accepted(side: Side) -> Text<OUTPUT_ROOM>
+    ensures { result ≡ accepted_lines (reason_of side) }
 {
-    let at = put_bytes(b" the entitlement\n", out, at);
-    let at = put_side(reason, out, at);
-    put_bytes(b"accepted\nreason the flow paid on is ", out, at)
+    let mut text = Text::new();
+    text.put_bytes(b"accepted\nreason the flow paid on is ");
+    text.put_bytes(side_word(side));
+    text.put_bytes(b" the entitlement\n");
+    text
 }
 
-fn put_front(refusal: u8, from: usize, to: usize, out: &mut [u8], at: usize) -> usize
-    requires { (8 * line_room ≤ at) × (at ≤ length out.old) }
-    ensures { Prepended (front_lines refusal from to) out.old at out.new result }
+#[tactic(auto, unfolding(crate::specs::ExplanationReport::front_lines, record_lines::specs::RecordLines::text_line, printout::specs::Lines::joined, writers::specs::Text::ascii))]
+fn put_front(text: &mut Text<OUTPUT_ROOM>, refusal: Refusal, from: usize, to: usize)
+    requires { length text.old ≤ 8 * line_room }
+    ensures written { text.new ≡ text.old ++ front_lines (number refusal) from to }
+    ensures room { length text.new ≤ length text.old + 8 * line_room }
 {
-    let at = put_count_line(b"to ", to, out, at);
-    let at = put_count_line(b"from ", from, out, at);
-    let at = put_bytes(b"\n", out, at);
-    let at = meanings::put_meaning(refusal, out, at);
-    let at = put_bytes(b"meaning ", out, at);
-    put_refusal(refusal, out, at)
+    put_refusal(text, refusal.number());
+    text.put_bytes(b"meaning ");
+    text.put_bytes(meanings::meaning(refusal.number()));
+    text.put_bytes(b"\n");
+    put_line(text, b"from ", from);
+    put_line(text, b"to ", to);
 }
 
-fn put_refused(sheet: &[u8], f: Finding, out: &mut [u8]) -> usize
-    requires { Fits sheet.now f × (length out.old ≡ 16 * line_room) }
-    ensures { Prepended (refused_lines sheet.now f) out.old (16 * line_room) out.new result }
+#[tactic(auto, unfolding(crate::specs::ExplanationReport::refused_lines))]
+fn refused(sheet: &[u8], f: Finding, refusal: Refusal) -> Text<OUTPUT_ROOM>
+    requires { Fits sheet.now (found f) × (row_of f.reason ≡ number refusal) }
+    ensures { result ≡ refused_lines sheet.now (found f) }
 {
-    let from = f.from;
-    let to = f.to;
-    let number = record_numbers::record_number(sheet, from);
-    let at = record_lines::put_record(number, &sheet[from..to], out, OUTPUT_ROOM);
-    put_front(f.refusal, from, to, out, at)
+    let number = record_numbers::record_number(sheet, f.from);
+    let mut text = Text::new();
+    put_front(&mut text, refusal, f.from, f.to);
+    record_lines::put_record(&mut text, number, &sheet[f.from..f.to]);
+    text
 }
 
-fn put_explanation(sheet: &[u8], f: Finding, out: &mut [u8]) -> usize
-    requires { Fits sheet.now f × (length out.old ≡ 16 * line_room) }
-    ensures { Prepended (explanation_lines sheet.now f) out.old (16 * line_room) out.new result }
+#[tactic(auto, unfolding(crate::specs::ExplanationReport::explanation_lines), using(rows::proofs::Refusing::number_positive))]
+fn explained(sheet: &[u8], f: Finding) -> Text<OUTPUT_ROOM>
+    requires { Fits sheet.now (found f) }
+    ensures { result ≡ explanation_lines sheet.now (found f) }
 {
-    if f.refusal != 0 {
-        return put_refused(sheet, f, out);
+    match f.reason {
+        Ok(side) => accepted(side),
+        Err(refusal) => refused(sheet, f, refusal),
     }
-    let reason = f.reason;
-    put_accepted(reason, out, OUTPUT_ROOM)
 }
 
 // The program's standard output at the front of a buffer that has room for it. Returns its length.
@@ -80,7 +84,5 @@ pub fn write_explanation(sheet: &[u8], list: &[u8], out: &mut [u8; OUTPUT_ROOM])
     ensures prefix_len { IsPrefixLen result out.new }
 {
     let f = explanation::locate(sheet, list);
-    let mut scratch = [0u8; OUTPUT_ROOM];
-    let from = put_explanation(sheet, f, &mut scratch);
-    put(&scratch[from..], out)
+    put(explained(sheet, f).as_slice(), out)
 }

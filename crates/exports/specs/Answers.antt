@@ -1,13 +1,11 @@
 -- The answers of the reader, of the list and of an explanation as numbers, for callers that have no enums.
 use Rattle.std.specs.Prelude.{ℕ, pos}
-use Rattle.sheet.specs.declared.Outcome.{Outcome}
-use Rattle.sheet.specs.declared.Outcome.TheVariants as outcome
-use Rattle.entitlements.specs.declared.Entitlement.{Entitlement}
-use Rattle.entitlements.specs.declared.Entitlement.TheVariants as found
+use Rattle.sheet.specs.Sheet.{Outcome}
+use Rattle.sheet.specs.Sheet as outcome
+use Rattle.entitlements.specs.Entitlements.{Entitlement}
+use Rattle.entitlements.specs.Entitlements as found
 use Rattle.exports.specs.declared.ReadAnswer.{ReadAnswer}
-use Rattle.explanation.specs.declared.Reason.{Reason}
-use Rattle.explanation.specs.declared.Reason.TheVariants.{None, Above, Below, At}
-use Rattle.explanation.specs.declared.Finding.{Finding}
+use Rattle.explanation.specs.Explanation.{Reason, None, Above, Below, At, Finding}
 use Rattle.exports.specs.declared.EntitlementAnswer.{EntitlementAnswer}
 use Rattle.exports.specs.declared.ExplanationAnswer.{ExplanationAnswer}
 

@@ -13,11 +13,12 @@ ghost use Rattle.drafts.specs.Draft.{given};
 ghost use Rattle.draft_reader.specs.DraftReader.{drafted_from};
 ghost use Rattle.sheet_writer.specs.Promise.{Promise as SheetPromise};
 ghost use Rattle.explanation.specs.Explanation.{explained};
+ghost use Rattle.explanation.specs.Found.{reason_of};
 ghost use Rattle.exports.specs.Answers.{read_answer, entitlement_answer, reason_code, explanation_answer};
 
 use draft_reader::Drafted;
 use drafts::Draft;
-use explanation::Reason;
+use explanation::Side;
 use hours::{Changed, Hour, Totals};
 use listing::Printed;
 use sheet_writer::Written;
@@ -73,9 +74,9 @@ pub fn m2m_read(sheet: &[u8]) -> ReadAnswer
     ensures { result ≡ read_answer (read_sheet sheet.now) }
 {
     match sheet::read(sheet) {
-        sheet::Outcome::Refused(row, place) => ReadAnswer {
-            refusal: row,
-            place,
+        Err(refused) => ReadAnswer {
+            refusal: refused.refusal.number(),
+            place: refused.place,
             zones: 0,
             units: 0,
             points: 0,
@@ -84,17 +85,20 @@ pub fn m2m_read(sheet: &[u8]) -> ReadAnswer
             paths: 0,
             circulations: 0,
         },
-        sheet::Outcome::Accepted(l) => ReadAnswer {
-            refusal: 0,
-            place: 0,
-            zones: l.zones,
-            units: l.units,
-            points: l.points,
-            pars: l.pars,
-            factors: l.factors,
-            paths: l.paths,
-            circulations: l.circulations,
-        },
+        Ok(accepted) => {
+            let l = accepted.layout;
+            ReadAnswer {
+                refusal: 0,
+                place: 0,
+                zones: l.zones,
+                units: l.units,
+                points: l.points,
+                pars: l.pars,
+                factors: l.factors,
+                paths: l.paths,
+                circulations: l.circulations,
+            }
+        }
     }
 }
 
@@ -102,11 +106,11 @@ pub fn m2m_entitlement(list: &[u8], name: &[u8]) -> EntitlementAnswer
     ensures { result ≡ entitlement_answer (entitlement list.now name.now) }
 {
     match entitlements::find(list, name) {
-        entitlements::Entitlement::Refused(row) => EntitlementAnswer {
-            refusal: row,
+        Err(refusal) => EntitlementAnswer {
+            refusal: refusal.number(),
             value: 0,
         },
-        entitlements::Entitlement::Found(value) => EntitlementAnswer { refusal: 0, value },
+        Ok(value) => EntitlementAnswer { refusal: 0, value },
     }
 }
 
@@ -140,14 +144,13 @@ pub fn m2m_write_draft(draft: Draft, out: &mut [u8]) -> Written
     sheet_writer::write_draft(draft, out)
 }
 
-fn reason_code(reason: Reason) -> u8
-    ensures { result ≡ reason_code reason }
+fn reason_code(reason: Side) -> u8
+    ensures { result ≡ reason_code (reason_of reason) }
 {
     match reason {
-        Reason::None => 0,
-        Reason::Above => 1,
-        Reason::Below => 2,
-        Reason::At => 3,
+        Side::Above => 1,
+        Side::Below => 2,
+        Side::At => 3,
     }
 }
 
@@ -155,10 +158,13 @@ pub fn m2m_explain(sheet: &[u8], list: &[u8]) -> ExplanationAnswer
     ensures { result ≡ explanation_answer (explained sheet.now list.now) }
 {
     let f = explanation::locate(sheet, list);
-    let reason = f.reason;
+    let (refusal, reason) = match f.reason {
+        Err(refusal) => (refusal.number(), 0),
+        Ok(side) => (0, reason_code(side)),
+    };
     ExplanationAnswer {
-        refusal: f.refusal,
-        reason: reason_code(reason),
+        refusal,
+        reason,
         from: f.from,
         to: f.to,
     }

@@ -21,39 +21,32 @@ const MOST_FACTOR: u32 = 10_000;
 fn outside(low: usize, n: usize, high: usize) -> bool
     ensures { result ≡ outside low n high }
 {
-    (n < low) | (high < n)
+    !(low..=high).contains(&n)
 }
 
 // Outside ± most.
-fn beyond(most: u32, z: i64) -> bool
+fn beyond(most: u32, z: i32) -> bool
     ensures { result ≡ beyond most z }
 {
-    let high = most as i64;
-    (z < -high) | (high < z)
-}
-
-fn power_beyond(z: i32) -> bool
-    ensures { result ≡ beyond 200000 z }
-{
-    beyond(MOST_FLOW, z as i64)
+    most < z.unsigned_abs()
 }
 
 pub fn factor_beyond(z: i16) -> bool
     ensures { result ≡ beyond 10000 z }
 {
-    beyond(MOST_FACTOR, z as i64)
+    beyond(MOST_FACTOR, i32::from(z))
 }
 
 pub fn no_rto(code: u8) -> bool
     ensures { result ≡ no_rto code }
 {
-    !((code == records::NYISO) | (code == records::PJM))
+    !matches!(code, records::NYISO | records::PJM)
 }
 
 pub fn no_type(code: u8) -> bool
     ensures { result ≡ no_type code }
 {
-    !((code == records::COMMON) | (code == records::NON_COMMON))
+    !matches!(code, records::COMMON | records::NON_COMMON)
 }
 
 pub fn no_zone_of(zones: usize, n: u8) -> bool
@@ -100,19 +93,19 @@ pub fn point_outside(p: Point) -> bool
 pub fn par_outside(p: Par) -> bool
     ensures { result ≡ par_outside p }
 {
-    power_beyond(p.actual) | power_beyond(p.target)
+    beyond(MOST_FLOW, p.actual) | beyond(MOST_FLOW, p.target)
 }
 
 pub fn path_outside(p: Path) -> bool
     ensures { result ≡ path_outside p }
 {
-    power_beyond(p.flow)
+    beyond(MOST_FLOW, p.flow)
 }
 
 pub fn circulation_outside(c: Circulation) -> bool
     ensures { result ≡ circulation_outside c }
 {
-    power_beyond(c.flow)
+    beyond(MOST_FLOW, c.flow)
 }
 
 pub fn path_factor_outside(p: Path) -> bool

@@ -1,4 +1,2 @@
 pub mod FieldLaws
-pub mod Storing
-pub mod Bits
 pub mod Records

@@ -1,85 +1,82 @@
 #![tactic(auto)]
 // Writers of fields. Each fills the front of the buffer that it is lent, and returns how many bytes these are.
-ghost use Rattle.std.specs.Prelude.{◌≡◌, ◌∷◌, [], ◌≤◌, length};
-ghost use Rattle.std.specs.Int.{w16, w32};
-ghost use Rattle.std.proofs.Common.{of_z};
+ghost use Rattle.std.specs.Prelude.{◌≡◌, List, ℕ, ◌∷◌, [], ◌≤◌, length};
 ghost use Rattle.writers.specs.inner.Wrote.{Wrote};
 ghost use Rattle.field_writers.specs.FieldBytes.{bytes16, bytes32, signed16, signed32};
 
-pub fn put8(n: u8, out: &mut [u8]) -> usize
-    requires { 1 ≤ length out.old }
-    ensures wrote { Wrote (n ∷ []) out.old out.new result }
-    ensures value { result ≡ 1 }
-{
-    out[0] = n;
-    1
+// A number that is a field: how many bytes it has, and which.
+pub trait Field {
+    ghost width: { ℕ };
+
+    ghost bytes: { Self → List ℕ };
+
+    fn put(self, out: &mut [u8]) -> usize
+        requires { width ≤ length out.old }
+        ensures wrote { Wrote (bytes self) out.old out.new result }
+        ensures value { result ≡ width };
 }
 
-pub fn put16(n: u16, out: &mut [u8]) -> usize
-    requires { 2 ≤ length out.old }
-    ensures wrote { Wrote (bytes16 n) out.old out.new result }
-    ensures value { result ≡ 2 }
-{
-    out[0] = (n / 256) as u8;
-    out[1] = (n % 256) as u8;
-    2
-}
+impl Field for u8 {
+    ghost width = { 1 };
 
-pub fn put32(n: u32, out: &mut [u8]) -> usize
-    requires { 4 ≤ length out.old }
-    ensures wrote { Wrote (bytes32 n) out.old out.new result }
-    ensures value { result ≡ 4 }
-{
-    let mut k = put16((n / 65536) as u16, out);
-    k += put16((n % 65536) as u16, &mut out[k..]);
-    k
-}
+    ghost bytes = { λ n. n ∷ [] };
 
-// The bits of z in two's complement.
-fn bits16(z: i16) -> u16
-    ensures { result ≡ of_z w16 z }
-{
-    if z < 0 {
-        0xffff - ((-1 - z) as u16)
-    } else {
-        z as u16
+    fn put(self, out: &mut [u8]) -> usize {
+        writers::put(&[self], out)
     }
 }
 
-fn bits32(z: i32) -> u32
-    ensures { result ≡ of_z w32 z }
-{
-    if z < 0 {
-        0xffff_ffff - ((-1 - z) as u32)
-    } else {
-        z as u32
+impl Field for u16 {
+    ghost width = { 2 };
+
+    ghost bytes = { bytes16 };
+
+    fn put(self, out: &mut [u8]) -> usize {
+        writers::put(&u16::to_be_bytes(self), out)
     }
 }
 
-pub fn put_signed16(z: i16, out: &mut [u8]) -> usize
-    requires { 2 ≤ length out.old }
-    ensures wrote { Wrote (signed16 z) out.old out.new result }
-    ensures value { result ≡ 2 }
-{
-    put16(bits16(z), out)
+impl Field for u32 {
+    ghost width = { 4 };
+
+    ghost bytes = { bytes32 };
+
+    fn put(self, out: &mut [u8]) -> usize {
+        writers::put(&u32::to_be_bytes(self), out)
+    }
 }
 
-pub fn put_signed32(z: i32, out: &mut [u8]) -> usize
-    requires { 4 ≤ length out.old }
-    ensures wrote { Wrote (signed32 z) out.old out.new result }
-    ensures value { result ≡ 4 }
-{
-    put32(bits32(z), out)
+impl Field for i16 {
+    ghost width = { 2 };
+
+    ghost bytes = { signed16 };
+
+    #[tactic(auto, unfolding(crate::specs::FieldBytes::signed16))]
+    fn put(self, out: &mut [u8]) -> usize {
+        writers::put(&i16::to_be_bytes(self), out)
+    }
+}
+
+impl Field for i32 {
+    ghost width = { 4 };
+
+    ghost bytes = { signed32 };
+
+    #[tactic(auto, unfolding(crate::specs::FieldBytes::signed32))]
+    fn put(self, out: &mut [u8]) -> usize {
+        writers::put(&i32::to_be_bytes(self), out)
+    }
 }
 
 // The kind byte, and the name behind it.
+#[tactic(auto, using(crate::proofs::Records::first))]
 pub fn put_front(kind: u8, name: [u8; 16], out: &mut [u8]) -> usize
     requires { 17 ≤ length out.old }
     ensures wrote { Wrote (kind ∷ name) out.old out.new result }
     ensures value { result ≡ 17 }
     ensures name_len { length name ≡ 16 }
 {
-    let mut n = put8(kind, out);
+    let mut n = kind.put(out);
     n += writers::put(&name, &mut out[n..]);
     n
 }

@@ -4,9 +4,8 @@ ghost use Rattle.io.specs.Counts.{IsPrefixLen};
 ghost use Rattle.writers.specs.inner.Wrote.{Wrote};
 ghost use Rattle.files.specs.inner.Telling.{told};
 
-use std::fmt::Write as _;
-use std::io::Write;
-use std::{fmt, io};
+use std::io;
+use std::io::{Cursor, Write};
 use writers::put;
 
 // What failed, as the line begins.
@@ -21,61 +20,43 @@ fn put_told(program: &[u8], what: &[u8], out: &mut [u8]) -> usize
     n
 }
 
-// An error's text, as far as there is room.
-#[derive(Drop)]
-struct Reason {
-    text: [u8; 128],
-    length: usize,
-}
-
-impl fmt::Write for Reason {
-    fn write_str(&mut self, text: &str) -> fmt::Result {
-        for byte in text.as_bytes() {
-            if self.length < 128 {
-                self.text[self.length] = *byte;
-                self.length += 1;
-            }
-        }
-        Ok(())
+// An error's text as std has it, without the number that std puts behind the system's own: ` (os error 2)`.
+fn reason<'a>(error: &io::Error, text: &'a [u8]) -> &'a [u8] {
+    let bracket = text.iter().rposition(|byte| *byte == b'(');
+    match (error.raw_os_error(), bracket) {
+        (Some(_), Some(bracket)) => &text[..bracket.saturating_sub(1)],
+        _ => text,
     }
 }
 
-// The system's text of the error, without the number that std puts behind it: ` (os error 2)`.
-fn reason_of(error: &io::Error) -> Reason {
-    let mut reason = Reason {
-        text: [0; 128],
-        length: 0,
-    };
-    let _written = write!(reason, "{error}");
-    if error.raw_os_error().is_some() {
-        if let Some(bracket) = reason.text.iter().rposition(|byte| *byte == b'(') {
-            reason.length = bracket.saturating_sub(1);
-        }
-    }
-    reason
-}
-
+// The reason is told as far as there is room.
 fn tell_line<E: Write>(errors: &mut E, what: &[u8], error: &io::Error) {
-    let reason = reason_of(error);
-    let n = reason.length.min(128);
-    transfers::write_all(errors, what);
-    transfers::write_all(errors, b": ");
-    transfers::write_all(errors, &reason.text[..n]);
-    transfers::write_all(errors, b"\n");
+    let mut text = Cursor::new([0u8; 128]);
+    let _written = write!(text, "{error}");
+    let length = text.position().min(128) as usize;
+    for part in [what, b": ", reason(error, &text.get_ref()[..length]), b"\n"] {
+        let _written = transfers::write_all(errors, part);
+    }
 }
 
-// `program: what: why`, the reason being the error's text. Names that are too long for the line are told without the
-// program's.
-pub fn tell<E: Write>(errors: &mut E, program: &[u8], what: &[u8], error: &io::Error) {
-    if program.len() > 64 {
-        tell_line(errors, what, error);
-        return;
+// Tells what failed, on a stream of errors, by the program's name.
+#[derive(Drop)]
+pub struct Teller<E> {
+    pub program: &'static str,
+    pub errors: E,
+}
+
+impl<E: Write> Teller<E> {
+    // `program: what: why`, the reason being the error's text. Names that are too long for the line are told without the
+    // program's.
+    pub fn tell(&mut self, what: &[u8], error: &io::Error) {
+        let program = self.program.as_bytes();
+        if program.len() > 64 || what.len() > 4096 {
+            tell_line(&mut self.errors, what, error);
+            return;
+        }
+        let mut line = [0u8; 4162];
+        let n = put_told(program, what, &mut line);
+        tell_line(&mut self.errors, &line[..n], error);
     }
-    if what.len() > 4096 {
-        tell_line(errors, what, error);
-        return;
-    }
-    let mut line = [0u8; 4162];
-    let n = put_told(program, what, &mut line);
-    tell_line(errors, &line[..n], error);
 }

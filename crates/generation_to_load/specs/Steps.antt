@@ -2,7 +2,7 @@
 use Rattle.std.specs.Prelude.{ℕ, ◌≡◌, List, ℤ}
 use Rattle.layout.specs.declared.Layout.{Layout}
 use Rattle.records.specs.Content.{Content}
-use Rattle.sheet.specs.declared.Outcome.TheVariants.{Accepted}
+use Rattle.sheet.specs.Sheet.{Accepted}
 use Rattle.sheet.specs.Sheet.{read_sheet, content_of}
 use Rattle.figures.specs.Balance.{gross_load, net_load, final_load, net_generation, final_generation, gross_output, balance_row}
 use Rattle.figures.specs.Flow.{weighted_output, weighted_load, load_share, first_remainder, gross_flow, generation_to_load, second_remainder}

@@ -1,14 +1,17 @@
 #![tactic(auto)]
 // The generation-to-load routine in Schedule D's order: loads (5.2), generation (5.3), then the flow (5.4); document 01's steps 1, 2 and 3.
 // It is read beside the schedule: each equation's place and names stand where it is followed. Powers are tenths of a MW, flows watts.
+// Loads and generation are written out alike, each beside its own equations: one function over both would have no place in the schedule.
+mod served;
+
 ghost use Rattle.std.specs.Prelude.{◌≡◌, ◌≤◌, pos, nat_abs, ◌-ℤ◌, ◌*ℤ◌, ◌<ℤ◌};
-ghost use Rattle.sheet.specs.Sheet.{read_sheet, content_of};
-ghost use Rattle.sheet.specs.declared.Outcome.TheVariants.{Accepted};
+ghost use Rattle.sheet.specs.Sheet.{content_of};
 ghost use Rattle.figures.specs.inner.Most.{most_power, most_weighted, most_share, most_generation_to_load};
-ghost use Rattle.generation_to_load.specs.Steps.{loads_of, generation_of, Ready, flow_for};
+ghost use Rattle.generation_to_load.specs.Steps.{loads_of, generation_of, flow_for};
 ghost use Rattle.generation_to_load.specs.inner.Divided.{Divided};
 
-use zone_sums::Ledger;
+pub use served::Served;
+use sheet::AcceptedSheet;
 
 // 5.2 Compute RTO Load Served by RTO Generation. Step 1.
 // zone_loads has zeros behind the sheet's zones. gross_load is what row 16 judges: loads with losses.
@@ -20,23 +23,20 @@ pub struct LoadServed {
     pub final_load: i64,
 }
 
-pub fn loads(s: &[u8], l: layout::Layout) -> LoadServed
-    requires { read_sheet s.now ≡ Accepted l }
-    ensures { result ≡ loads_of (content_of s.now) }
+pub fn loads(sheet: &AcceptedSheet<'_>) -> LoadServed
+    ensures { result ≡ loads_of (content_of sheet.now.bytes.now) }
 {
     // 5.2, first equation: Zonal_Total_Load = Load + Losses, for each zone
-    let mut total_loads = [0u64; 33];
-    zone_sums::sum_up(s, l, Ledger::Loads, l.zones, &mut total_loads);
-    let gross_load = zone_sums::total(&total_loads, l.zones);
+    let total_loads = zone_sums::loads(sheet);
+    let gross_load = total_loads.total(sheet.layout.zones);
     // 5.2, second: Zonal_Reduced_Load = Zonal_Total_Load − Import_Schedules of the scheduled lines that sink in the zone.
     // Document 01 calls it zone load.
-    let mut imports = [0u64; 33];
-    zone_sums::sum_up(s, l, Ledger::Imports, l.points, &mut imports);
-    let zone_loads = zone_sums::reduced(&total_loads, &imports, l.zones);
+    let imports = zone_sums::imports(sheet);
+    let zone_loads = total_loads.reduced(&imports, sheet.layout.zones);
     // 5.2, third: RTO_Net_Load = the sum of Zonal_Reduced_Load
-    let net_load = zone_sums::net(&zone_loads, l.zones);
+    let net_load = zone_sums::net(&zone_loads, sheet.layout.zones);
     // 5.2, fourth: RTO_Final_Load = RTO_Net_Load − Import_Schedules of the proxies
-    let final_load = net_load - imports[0] as i64;
+    let final_load = net_load - imports.proxies();
     LoadServed {
         zone_loads,
         gross_load,
@@ -55,23 +55,20 @@ pub struct GenerationServing {
     pub gross_output: i64,
 }
 
-pub fn generation(s: &[u8], l: layout::Layout) -> GenerationServing
-    requires { read_sheet s.now ≡ Accepted l }
-    ensures { result ≡ generation_of (content_of s.now) }
+pub fn generation(sheet: &AcceptedSheet<'_>) -> GenerationServing
+    ensures { result ≡ generation_of (content_of sheet.now.bytes.now) }
 {
     // 5.3, first equation: RTO_Gen = the sum of the zone's Gen, for each zone
-    let mut outputs = [0u64; 33];
-    zone_sums::sum_up(s, l, Ledger::Outputs, l.units, &mut outputs);
-    let gross_output = zone_sums::total(&outputs, l.zones);
+    let outputs = zone_sums::outputs(sheet);
+    let gross_output = outputs.total(sheet.layout.zones);
     // 5.3, second: RTO_Reduced_Gen = RTO_Gen − Export_Schedules of the scheduled lines that source from the zone.
     // Document 01 calls it zone generation.
-    let mut exports = [0u64; 33];
-    zone_sums::sum_up(s, l, Ledger::Exports, l.points, &mut exports);
-    let zone_generation = zone_sums::reduced(&outputs, &exports, l.zones);
+    let exports = zone_sums::exports(sheet);
+    let zone_generation = outputs.reduced(&exports, sheet.layout.zones);
     // 5.3, third: RTO_Net_Gen = the sum of RTO_Reduced_Gen
-    let net_generation = zone_sums::net(&zone_generation, l.zones);
+    let net_generation = zone_sums::net(&zone_generation, sheet.layout.zones);
     // 5.3, fourth: RTO_Final_Gen = RTO_Net_Gen − Export_Schedules of the proxies
-    let final_generation = net_generation - exports[0] as i64;
+    let final_generation = net_generation - exports.proxies();
     GenerationServing {
         zone_generation,
         net_generation,
@@ -102,23 +99,18 @@ pub struct GenerationToLoad {
     pub second_remainder: i64,
 }
 
-pub fn flow<'a>(
-    s: &[u8],
-    l: layout::Layout,
-    balance: Balance,
-    zone_loads: &'a [i64; 32],
-    target: usize,
-) -> GenerationToLoad
-    requires { Ready s.now l balance zone_loads.now × (target ≤ l.pars) }
-    ensures { result ≡ flow_for (content_of s.now) target }
+pub fn flow(served: &Served<'_>, target: usize) -> GenerationToLoad
+    requires { target ≤ served.now.sheet.layout.pars }
+    ensures { result ≡ flow_for (content_of served.now.sheet.bytes.now) target }
 {
+    let balance = &served.balance;
     // The sum of Gen × GSF: document 01's A
-    let a = weighted_sums::weighted(s, l, records::UNIT, 0, target);
+    let a = weighted_sums::output(&served.sheet, target);
     // 5.2, fifth: Zonal_Weighting = Zonal_Reduced_Load / RTO_Net_Load
     // 5.2, sixth: Zonal_Final_Load = Zonal_Weighting × RTO_Final_Load
     // 5.2, seventh: RTO_LSF = the sum of LSF × Zonal_Final_Load / RTO_Final_Load. RTO_Final_Load cancels:
     // it is N / RTO_Net_Load, N the sum of LSF × Zonal_Reduced_Load
-    let n = weighted_sums::weighted_load(s, l, zone_loads, target);
+    let n = weighted_sums::weighted_load(&served.sheet, &served.zone_loads, target);
     // The sum of Gen × RTO_LSF: B
     let share = load_share(balance.gross_output, n, balance.net_load);
     // The sum of Gen × (GSF − RTO_LSF): H

@@ -2,8 +2,8 @@
 use Rattle.std.specs.Prelude.{ℕ, ◌+◌, cond, List, [], ◌∷◌, eqb, ℤ, pos, ◌+ℤ◌}
 use Rattle.records.specs.Content.{Content, head}
 use Rattle.sheet.specs.Sheet.{Reading, holds, fails, reading}
-use Rattle.entitlements.specs.declared.Entitlement.{Entitlement}
-use Rattle.entitlements.specs.declared.Entitlement.TheVariants as found
+use Rattle.entitlements.specs.Entitlements.{Entitlement}
+use Rattle.entitlements.specs.Entitlements as found
 use Rattle.entitlements.specs.Entitlements.{entitlement}
 use Rattle.accuracy.specs.Fraction.{Fraction, entire, ◌⊕◌}
 use Rattle.accuracy.specs.Exact.{exact_amount}

@@ -8,8 +8,10 @@ use mathlib.Core.List.{List}
 use borrow.Author.Tests.{ltb-true, ltb-false, le-ltb}
 use lib.Dec.{ltb}
 use lib.IntN.{ℤ, pos, negsuc, nat_abs}
-use lib.ListN.{get_or}
+use lib.ListN.{length, take, get_or, length-take}
+use lib.Seq.{get_or-take}
 use lib.Signed.{lt_z}
+use Rattle.std.specs.Int.{int_min, int_max}
 use Rattle.integers.proofs.Sums.{sum_abs}
 use Rattle.hour_cells.specs.Cells.{held, seconds_to, cell, cell_at, amount_of}
 
@@ -28,6 +30,10 @@ held_all count l = by (ltb count 60) (λ e. ltb-false count 60 e)
     by : (b : Bool) → (b ≡ false → 60 ≤ count) → cond b count 60 ≡ count
     by true f = refl
     by false f = let k = f refl in omega arith
+
+-- the cells that count are the first of all
+pub cell_here : {A : Type 0} (cells : List A) (n i : ℕ) (d : A) → i < length (take n cells) → get_or (take n cells) i d ≡ get_or cells i d
+cell_here {A} cells n i d h = get_or-take n cells i d (omega (arith, length-take {A = A} n cells))
 
 -- ---- seconds
 pub seconds_zero : (seconds : List ℕ) → seconds_to seconds 0 ≡ 0
@@ -67,3 +73,12 @@ pub amount_within : (amounts : List ℤ) (count : ℕ) → nat_abs (amount_of am
 unfolding amount_of
 amount_within amounts count =
     omega (arith, sum_abs (cell_at amounts) 2000000000000 (held count) (λ i l. cell_at_within amounts i), held_most count)
+
+pub clamped : (x : ℤ) → int_max (negsuc 1999999999999) (int_min x (pos 2000000000000)) ≡ cell x
+unfolding cell
+clamped (pos n) = by (ltb 2000000000000 n)
+  where
+    by : (b : Bool) → int_max (negsuc 1999999999999) (cond b (pos 2000000000000) (pos n)) ≡ cond b (pos 2000000000000) (pos n)
+    by true = refl
+    by false = refl
+clamped (negsuc n) = refl

@@ -6,51 +6,42 @@ ghost use Rattle.hour_cells.specs.Cells.{held, cell, seconds_of, amount_of};
 // As many as an hour can hold intervals.
 pub const CELLS: usize = 60;
 
+// No interval's amount is further from zero.
+const MOST_AMOUNT: i64 = 2_000_000_000_000;
+
+#[tactic(auto, unfolding(crate::specs::Cells::held))]
 fn held(count: usize) -> usize
-    ensures { result ≡ held count }
+    ensures { (result ≡ held count) × (result ≤ 60) }
 {
-    if count < CELLS {
-        return count;
-    }
-    CELLS
+    count.min(CELLS)
 }
 
 // A cell's amount: no further from zero than an interval's can be.
+#[tactic(auto, using(crate::proofs::Cells::clamped))]
 fn cell_of(x: i64) -> i64
     ensures { result ≡ cell x }
 {
-    if x < -2_000_000_000_000 {
-        return -2_000_000_000_000;
-    }
-    if 2_000_000_000_000 < x {
-        return 2_000_000_000_000;
-    }
-    x
+    x.clamp(-MOST_AMOUNT, MOST_AMOUNT)
 }
 
+#[tactic(auto, using(crate::proofs::Cells::seconds_zero), unfolding(crate::specs::Cells::seconds_of))]
 pub fn seconds_of(seconds: [u16; CELLS], count: usize) -> u32
     ensures { (result ≡ seconds_of seconds count) × (result ≤ 3932100) }
 {
-    let n = held(count);
     let mut sum: u32 = 0;
-    let mut i = 0;
-    while i < n {
-        sum += seconds[i] as u32;
-        i += 1;
+    for s in &seconds[..held(count)] {
+        sum += u32::from(*s);
     }
     sum
 }
 
+#[tactic(auto, unfolding(crate::specs::Cells::amount_of))]
 pub fn amount_of(amounts: [i64; CELLS], count: usize) -> i64
     ensures { result ≡ amount_of amounts count }
 {
-    let n = held(count);
     let mut sum: i64 = 0;
-    let mut i = 0;
-    while i < n {
-        let x = amounts[i];
-        sum += cell_of(x);
-        i += 1;
+    for x in &amounts[..held(count)] {
+        sum += cell_of(*x);
     }
     sum
 }

@@ -1,20 +1,17 @@
 #![tactic(auto)]
 // What the program `hour` prints: a line for each sheet, and the lines of the hour.
-ghost use Rattle.std.specs.Prelude.{◌≡◌, ◌*◌, length};
+ghost use Rattle.std.specs.Prelude.{◌≡◌, length};
 ghost use Rattle.io.specs.Counts.{IsPrefixLen};
 ghost use Rattle.settlement.specs.Settled.{inputs, interval};
 ghost use Rattle.hours.specs.Hour.{added};
 ghost use Rattle.hours.specs.Totals.{totals_of};
-ghost use Rattle.lines.specs.inner.Room.{line_room};
 ghost use Rattle.writers.specs.Written.{written};
-ghost use Rattle.writers.specs.inner.Prepended.{Prepended};
-ghost use Rattle.writers.specs.inner.Wrote.{Wrote};
 ghost use Rattle.hour_report.specs.HourReport.{sheet_line, told_of, hour_lines};
 
 use hours::{Hour, Totals};
 use line_groups::put_amounts;
 use lines::{put_line, put_refusal};
-use writers::put;
+use writers::{Text, put};
 
 // Room for a sheet's line, and for the lines of an hour.
 pub const SHEET_ROOM: usize = lines::LINE;
@@ -28,40 +25,29 @@ pub struct Told {
     pub length: usize,
 }
 
-// A sheet's line at the end of the buffer: its amount, or the refusal.
-fn put_sheet(refusal: u8, amount: i64, out: &mut [u8]) -> usize
-    requires { length out.old ≡ line_room }
-    ensures { Prepended (sheet_line refusal amount) out.old line_room out.new result }
+// A sheet's line: its amount, or the refusal.
+#[tactic(auto, unfolding(crate::specs::HourReport::sheet_line, writers::specs::Text::ascii))]
+fn sheet_line(refusal: u8, amount: i64) -> Text<SHEET_ROOM>
+    ensures { result ≡ sheet_line refusal amount }
 {
-    if refusal != 0 {
-        return put_refusal(refusal, out, SHEET_ROOM);
+    let mut text = Text::new();
+    if refusal == 0 {
+        put_line(&mut text, b"amount ", amount);
+    } else {
+        put_refusal(&mut text, refusal);
     }
-    put_line(b"amount ", amount, out, SHEET_ROOM)
+    text
 }
 
-// The hour's lines at the end of the buffer.
-fn put_hour(t: Totals, out: &mut [u8]) -> usize
-    requires { length out.old ≡ 4 * line_room }
-    ensures { Prepended (hour_lines t) out.old (4 * line_room) out.new result }
+// The hour's lines.
+#[tactic(auto, unfolding(crate::specs::HourReport::hour_lines, writers::specs::Text::ascii))]
+fn hour_lines(t: Totals) -> Text<HOUR_ROOM>
+    ensures { result ≡ hour_lines t }
 {
-    let at = put_amounts(t.amount, t.nyiso, t.pjm, out, HOUR_ROOM);
-    put_line(b"seconds ", t.seconds as i64, out, at)
-}
-
-fn show_sheet(refusal: u8, amount: i64, out: &mut [u8; SHEET_ROOM]) -> usize
-    ensures { Wrote (sheet_line refusal amount) out.old out.new result }
-{
-    let mut scratch = [0u8; SHEET_ROOM];
-    let from = put_sheet(refusal, amount, &mut scratch);
-    put(&scratch[from..], out)
-}
-
-fn show_hour(t: Totals, out: &mut [u8; HOUR_ROOM]) -> usize
-    ensures { Wrote (hour_lines t) out.old out.new result }
-{
-    let mut scratch = [0u8; HOUR_ROOM];
-    let from = put_hour(t, &mut scratch);
-    put(&scratch[from..], out)
+    let mut text = Text::new();
+    put_line(&mut text, b"seconds ", i64::from(t.seconds));
+    put_amounts(&mut text, t.amount, t.nyiso, t.pjm);
+    text
 }
 
 // The hour after the interval of a sheet and a list, and the sheet's line at the front of the output buffer.
@@ -75,7 +61,7 @@ pub fn add_sheet(hour: Hour, sheet: &[u8], list: &[u8], out: &mut [u8; SHEET_ROO
     let statement = i.statement;
     let amount = statement.amount;
     let changed = hour.take(i);
-    let length = show_sheet(changed.refusal, amount, out);
+    let length = put(sheet_line(changed.refusal, amount).as_slice(), out);
     let hour = changed.hour;
     Told { hour, length }
 }
@@ -87,5 +73,5 @@ pub fn write_hour(hour: Hour, out: &mut [u8; HOUR_ROOM]) -> usize
     ensures prefix_len { IsPrefixLen result out.new }
 {
     let t = grown_hours::totals(hour);
-    show_hour(t, out)
+    put(hour_lines(t).as_slice(), out)
 }

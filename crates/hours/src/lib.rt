@@ -4,7 +4,10 @@ ghost use Rattle.std.specs.Prelude.{◌≡◌, ◌<◌};
 ghost use Rattle.settlement.specs.Settled.{inputs, interval};
 ghost use Rattle.hours.specs.Hour.{opened, is_other, hour_row, with_interval, added};
 ghost use Rattle.hours.specs.Totals.{totals_of};
+ghost use Rattle.rows.specs.Refusals.{row_of};
 
+use records::Rto;
+use rows::{Refusal, row};
 use settlement::Interval;
 
 // The amounts and seconds of its intervals stand in the first `count` cells. The cells behind them are zero, and so are an
@@ -55,50 +58,38 @@ impl Hour {
     }
 
     // Whether the interval is of another flowgate or Monitoring RTO than those that the hour has.
-    fn is_other(self, i: Interval) -> bool
-        ensures { result ≡ is_other self i }
+    #[tactic(auto, unfolding(crate::specs::Hour::is_other))]
+    fn is_other(&self, i: &Interval) -> bool
+        ensures { result ≡ is_other self.now i.now }
     {
-        if self.count == 0 {
-            return false;
-        }
-        if self.monitoring_rto != i.monitoring_rto {
-            return true;
-        }
-        let name = self.name;
-        let statement = i.statement;
-        let other = statement.name;
-        !names::same_name(name, other)
+        let other_rto = self.monitoring_rto != i.monitoring_rto;
+        let other_name = !names::same_name(self.name, i.statement.name);
+        (self.count != 0) & (other_rto | other_name)
     }
 
     // Rows 24 to 26.
-    fn row_for(self, i: Interval) -> u8
-        ensures { result ≡ hour_row self i }
+    #[tactic(auto, unfolding(crate::specs::Hour::hour_row))]
+    fn row_for(&self, i: &Interval) -> Result<(), Refusal>
+        ensures { row_of result ≡ hour_row self.now i.now }
     {
-        if self.count >= Self::INTERVALS {
-            return 24;
-        }
-        let seconds = self.seconds;
-        if hour_cells::seconds_of(seconds, self.count) + i.seconds as u32 > Self::SECONDS {
-            return 25;
-        }
-        if self.is_other(i) {
-            return 26;
-        }
-        0
+        row(Refusal::HourFull, self.count >= Self::INTERVALS)?;
+        let seconds = hour_cells::seconds_of(self.seconds, self.count);
+        row(
+            Refusal::HourTooLong,
+            seconds + i.seconds as u32 > Self::SECONDS,
+        )?;
+        row(Refusal::OtherInterval, self.is_other(i))
     }
 
-    fn with_interval(mut self, i: Interval) -> Hour
+    fn with_interval(mut self, i: &Interval) -> Hour
         requires { self.count < 60 }
-        ensures { result ≡ with_interval self i }
+        ensures { result ≡ with_interval self i.now }
     {
-        let statement = i.statement;
-        let amount = statement.amount;
-        let name = statement.name;
         let n = self.count;
-        self.amounts[n] = amount;
+        self.amounts[n] = i.statement.amount;
         self.seconds[n] = i.seconds;
         self.count = n + 1;
-        self.name = name;
+        self.name = i.statement.name;
         self.monitoring_rto = i.monitoring_rto;
         self
     }
@@ -107,24 +98,21 @@ impl Hour {
     pub fn take(mut self, i: Interval) -> Changed
         ensures { result ≡ added self i }
     {
-        let statement = i.statement;
-        if statement.refusal != 0 {
+        if i.statement.refusal != 0 {
             return Changed {
-                refusal: statement.refusal,
+                refusal: i.statement.refusal,
                 hour: self,
             };
         }
-        let row = self.row_for(i);
-        if row != 0 {
-            return Changed {
-                refusal: row,
+        match self.row_for(&i) {
+            Err(refusal) => Changed {
+                refusal: refusal.number(),
                 hour: self,
-            };
-        }
-        self = self.with_interval(i);
-        Changed {
-            refusal: 0,
-            hour: self,
+            },
+            Ok(()) => Changed {
+                refusal: 0,
+                hour: self.with_interval(&i),
+            },
         }
     }
 
@@ -139,11 +127,9 @@ impl Hour {
     pub fn totals(self) -> Totals
         ensures { result ≡ totals_of self }
     {
-        let cells = self.seconds;
-        let seconds = hour_cells::seconds_of(cells, self.count);
-        let amounts = self.amounts;
-        let amount = hour_cells::amount_of(amounts, self.count);
-        if self.monitoring_rto == records::NYISO {
+        let seconds = hour_cells::seconds_of(self.seconds, self.count);
+        let amount = hour_cells::amount_of(self.amounts, self.count);
+        if self.monitoring_rto == Rto::Nyiso.code() {
             return Totals {
                 seconds,
                 amount,

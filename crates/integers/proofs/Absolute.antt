@@ -4,7 +4,8 @@ use Prim.Native.Nat.{ℕ, ◌+◌, ◌*◌, ◌≤◌}
 use native.Mathlib.Omega.{arith}
 use lib.IntN.{ℤ, pos, negsuc, neg_ℤ, nat_abs, ◌+ℤ◌, ◌-ℤ◌, ◌*ℤ◌}
 use lib.Signed.{◌≤ℤ◌}
-use Rattle.integers.proofs.Parts.{up, dn, up_mul, dn_mul, up_neg, dn_neg, add_law, le_of, le_to}
+use Rattle.std.proofs.lemmas.Int.{unsigned_abs-mul}
+use Rattle.integers.proofs.Parts.{up, dn, up_neg, dn_neg, add_law, le_of, le_to}
 
 abs_is : (x : ℤ) → nat_abs x ≡ up x + dn x
 abs_is (pos n) = omega arith
@@ -22,10 +23,7 @@ abs_within {x} {k} h g = go x (simp (up_neg, dn_neg) at (le_to h)) (le_to g)
     go (negsuc n) h g = omega arith
 
 pub abs_mul : (x y : ℤ) → nat_abs (x *ℤ y) ≡ nat_abs x * nat_abs y
-abs_mul x y = omega (arith, abs_is (x *ℤ y), up_mul x y, dn_mul x y, e)
-  where
-    e : nat_abs x * nat_abs y ≡ (up x + dn x) * (up y + dn y)
-    e = rw (abs_is x, abs_is y)
+abs_mul x y = unsigned_abs-mul x y
 
 pub abs_add : (x y : ℤ) → nat_abs (x +ℤ y) ≤ nat_abs x + nat_abs y
 abs_add x y = go (x +ℤ y) (add_law x y)

@@ -13,17 +13,14 @@ use lib.Signed.{◌≤ℤ◌, ◌<ℤ◌, le_z, lt_z, mag}
 use mir.Syntax.{Width, w64}
 use mir.Val.{SFits, of_z, to_z, hbits}
 use mir.Facts.{to_z-of_z, to_z_pos}
+use Rattle.std.proofs.lemmas.Int.{fits_signed_from_abs}
 use Rattle.integers.proofs.Linear.{zarith}
 use Rattle.integers.proofs.Order.{le_or_lt}
 use Rattle.integers.proofs.Absolute.{abs_add, abs_sub, abs_mul}
 
-mag_abs : (z : ℤ) → mag z ≤ nat_abs z
-mag_abs (pos n) = omega arith
-mag_abs (negsuc n) = omega arith
-
 -- a number whose absolute value is below half the width's range fits
 pub abs_fits_at : (w : Width) (z : ℤ) → nat_abs z < 2 ^ hbits w → SFits w z
-abs_fits_at w z h = record { sfits = lt_of_le_of_lt (mag_abs z) h }
+abs_fits_at w z h = fits_signed_from_abs w z h
 
 pub abs_fits : (x : ℤ) → nat_abs x < 2 ^ 63 → SFits w64 x
 abs_fits x h = abs_fits_at w64 x h

@@ -6,5 +6,5 @@ ghost use Rattle.std.specs.Prelude.{◌≡◌, nat_abs};
 pub fn magnitude(x: i64) -> u64
     ensures { result ≡ nat_abs x }
 {
-    if x < 0 { (-1 - x) as u64 + 1 } else { x as u64 }
+    x.unsigned_abs()
 }

@@ -1,7 +1,8 @@
 #![tactic(auto)]
 // Where the records of a sheet stand. The sheet stays as it is: a layout says how many records there are of each kind.
 ghost use Rattle.std.specs.Prelude.{◌≡◌, true, ◌+◌, ◌*◌, ◌≤◌, ◌<◌, ◌^◌, length, drop};
-ghost use Rattle.record_table.specs.Table.{last_kind, kind_of, body_length, body_in};
+ghost use Rattle.record_table.specs.Table.{kind_of, body_length, body_in};
+ghost use Rattle.record_table.specs.Kinds.{code};
 ghost use Rattle.record_rows.specs.Rows.{repeats};
 ghost use Rattle.record_table.specs.inner.Sizes.{size, most_size};
 ghost use Rattle.layout.specs.inner.Places.{counts_in, one, count, counted, first_of, start_of, extent, body_at, content_at, Allowed};
@@ -10,6 +11,7 @@ ghost use Rattle.name_index.specs.inner.Index.{with_next};
 
 use due_factors::Counts;
 use name_index::Run;
+use record_table::Kind;
 
 // Of the index of names: its hashes are up to this.
 const MASK: usize = 511;
@@ -24,7 +26,7 @@ const MOST_NAMED: usize = record_table::MOST_HEADS
 // Of the table of the index: a place for each hash, for each name that is allowed, and for one too many.
 pub const TABLE_SIZE: usize = MASK + 1 + MOST_NAMED + 1;
 
-#[derive(Clone, Copy)]
+#[derive(Clone, Copy, Default)]
 pub struct Layout {
     pub heads: usize,
     pub zones: usize,
@@ -36,130 +38,108 @@ pub struct Layout {
     pub circulations: usize,
 }
 
-pub fn count_of(l: Layout, kind: u8) -> usize
-    ensures { result ≡ count l kind }
-{
-    match kind {
-        1 => l.heads,
-        2 => l.zones,
-        3 => l.units,
-        4 => l.points,
-        5 => l.pars,
-        6 => l.factors,
-        7 => l.paths,
-        8 => l.circulations,
-        _ => 0,
+impl Layout {
+    pub fn count_of(self, kind: Kind) -> usize
+        ensures { result ≡ count self (code kind) }
+    {
+        match kind {
+            Kind::Head => self.heads,
+            Kind::Zone => self.zones,
+            Kind::Unit => self.units,
+            Kind::Point => self.points,
+            Kind::Par => self.pars,
+            Kind::Factor => self.factors,
+            Kind::Path => self.paths,
+            Kind::Circulation => self.circulations,
+        }
+    }
+
+    pub fn counts_in(self) -> Counts
+        ensures { result ≡ counts_in self }
+    {
+        Counts {
+            zones: self.zones,
+            units: self.units,
+            points: self.points,
+            pars: self.pars,
+        }
+    }
+
+    // One record of a kind more.
+    #[tactic(auto, unfolding(crate::specs::inner::Places::counted), using(crate::proofs::Places::extent_is))]
+    pub fn add(&mut self, kind: Kind)
+        requires { extent self.old < 2 ^ 64 }
+        ensures { self.new ≡ counted self.old (code kind) }
+    {
+        match kind {
+            Kind::Head => self.heads += 1,
+            Kind::Zone => self.zones += 1,
+            Kind::Unit => self.units += 1,
+            Kind::Point => self.points += 1,
+            Kind::Par => self.pars += 1,
+            Kind::Factor => self.factors += 1,
+            Kind::Path => self.paths += 1,
+            Kind::Circulation => self.circulations += 1,
+        }
+    }
+
+    // Where the records of a kind begin.
+    fn first_of(self, kind: Kind) -> usize
+        requires { extent self < 2 ^ 64 }
+        ensures { result ≡ first_of self (code kind) }
+    {
+        let mut first = 0;
+        for below in 1..kind.code() {
+            if let Ok(below) = Kind::try_from(below) {
+                first += size_of(below) * self.count_of(below);
+            }
+        }
+        first
+    }
+
+    // Where the i-th record of a kind begins, from 0.
+    fn start_of(self, kind: Kind, i: usize) -> usize
+        requires { (extent self < 2 ^ 64) × (i < count self (code kind)) }
+        ensures { (result ≡ start_of self (code kind) i) × (result + size (code kind) ≤ extent self) }
+    {
+        self.first_of(kind) + size_of(kind) * i
+    }
+
+    fn named_of(self) -> usize
+        requires { Allowed self }
+        ensures { (result ≡ named self) × (result ≤ most_named) }
+    {
+        self.heads + self.zones + self.units + self.points + self.pars + self.paths
     }
 }
 
-pub fn counts_in(l: Layout) -> Counts
-    ensures { result ≡ counts_in l }
+fn size_of(kind: Kind) -> usize
+    ensures { (result ≡ size (code kind)) × (result ≤ most_size) }
 {
-    Counts {
-        zones: l.zones,
-        units: l.units,
-        points: l.points,
-        pars: l.pars,
-    }
-}
-
-fn size_of(kind: u8) -> usize
-    ensures { (result ≡ size kind) × (result ≤ most_size) }
-{
-    record_table::body_length(kind) + 1
-}
-
-fn one_if(met: bool) -> usize
-    ensures { (result ≡ one met) × (result ≤ 1) }
-{
-    if met { 1 } else { 0 }
-}
-
-// One record of a kind more. Most are factors, and of the others units.
-pub fn counted(l: Layout, kind: u8) -> Layout
-    requires { extent l < 2 ^ 64 }
-    ensures { result ≡ counted l kind }
-{
-    if kind == 6 {
-        return Layout {
-            heads: l.heads,
-            zones: l.zones,
-            units: l.units,
-            points: l.points,
-            pars: l.pars,
-            factors: l.factors + 1,
-            paths: l.paths,
-            circulations: l.circulations,
-        };
-    }
-    if kind == 3 {
-        return Layout {
-            heads: l.heads,
-            zones: l.zones,
-            units: l.units + 1,
-            points: l.points,
-            pars: l.pars,
-            factors: l.factors,
-            paths: l.paths,
-            circulations: l.circulations,
-        };
-    }
-    Layout {
-        heads: l.heads + one_if(kind == 1),
-        zones: l.zones + one_if(kind == 2),
-        units: l.units,
-        points: l.points + one_if(kind == 4),
-        pars: l.pars + one_if(kind == 5),
-        factors: l.factors,
-        paths: l.paths + one_if(kind == 7),
-        circulations: l.circulations + one_if(kind == 8),
-    }
-}
-
-// Where the records of a kind begin.
-fn first_of(l: Layout, kind: u8) -> usize
-    requires { (extent l < 2 ^ 64) × (1 ≤ kind) × (kind ≤ last_kind) }
-    ensures { result ≡ first_of l kind }
-{
-    let mut first = 0;
-    let mut k = 1;
-    while k < kind {
-        first += size_of(k) * count_of(l, k);
-        k += 1;
-    }
-    first
+    kind.body_length() + 1
 }
 
 // The body of the i-th record of a kind, from 0: the part of the sheet that starts behind the record's kind byte.
-pub fn body_at(s: &[u8], l: Layout, kind: u8, i: usize) -> &[u8]
-    requires { (extent l ≤ length s.now) × (1 ≤ kind) × (kind ≤ last_kind) × (i < count l kind) }
-    ensures { (result.now ≡ body_at s.now l kind i) × (length result.now ≡ body_length kind) }
+pub fn body_at(s: &[u8], l: Layout, kind: Kind, i: usize) -> &[u8]
+    requires { (extent l ≤ length s.now) × (i < count l (code kind)) }
+    ensures { (result.now ≡ body_at s.now l (code kind) i) × (length result.now ≡ body_length (code kind)) }
 {
-    let from = first_of(l, kind) + size_of(kind) * i + 1;
-    &s[from..from + record_table::body_length(kind)]
-}
-
-fn named_of(l: Layout) -> usize
-    requires { Allowed l }
-    ensures { (result ≡ named l) × (result ≤ most_named) }
-{
-    l.heads + l.zones + l.units + l.points + l.pars + l.paths
+    let from = l.start_of(kind, i) + 1;
+    &s[from..from + kind.body_length()]
 }
 
 // Whether the record at `at`, behind the others of its kind, has the name of one of them. The table, which holds their names, then holds its name too.
-pub fn repeated(s: &[u8], l: Layout, kind: u8, at: usize, table: &mut [u16]) -> bool
-    requires { (1 ≤ kind) × (kind ≤ last_kind) × ((kind_of kind).named ≡ true) × (at ≡ start_of l kind (count l kind)) × (at + size kind ≤ length s.now) × Allowed l × Listed s.now l kind table.old }
-    ensures { (result ≡ repeats (content_at s.now l) kind (body_in kind (drop (at + 1) s.now))) × Listed s.now (counted l kind) kind table.new × (table.new ≡ with_next s.now (run_of l kind) table.old) }
+pub fn repeated(s: &[u8], l: Layout, kind: Kind, at: usize, table: &mut [u16]) -> bool
+    requires { ((kind_of (code kind)).named ≡ true) × (at ≡ start_of l (code kind) (count l (code kind))) × (at + size (code kind) ≤ length s.now) × Allowed l × Listed s.now l (code kind) table.old }
+    ensures { (result ≡ repeats (content_at s.now l) (code kind) (body_in (code kind) (drop (at + 1) s.now))) × Listed s.now (counted l (code kind)) (code kind) table.new × (table.new ≡ with_next s.now (run_of l (code kind)) table.old) }
 {
-    let count = count_of(l, kind);
+    let count = l.count_of(kind);
     let stride = size_of(kind);
-    let first = at - stride * count + 1;
-    let base = named_of(l) - count;
     let run = Run {
-        first: first,
-        stride: stride,
-        count: count,
-        base: base,
+        first: at - stride * count + 1,
+        stride,
+        count,
+        base: l.named_of() - count,
         mask: MASK,
     };
     name_index::seen_before(s, at + 1, run, table)

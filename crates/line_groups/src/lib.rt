@@ -1,68 +1,53 @@
 #![tactic(auto)]
-// Groups of lines of a listing, written from the last to the first.
-ghost use Rattle.std.specs.Prelude.{◌+◌, ◌*◌, ◌≤◌, length};
-ghost use Rattle.writers.specs.inner.Prepended.{Prepended};
+// Groups of lines of a listing, put at a text's end.
+ghost use Rattle.std.specs.Prelude.{◌≡◌, ◌+◌, ◌*◌, ◌≤◌, ◌++◌, length};
 ghost use Rattle.printout.specs.Lines.{flow_lines, settled_lines, amount_lines, payment_lines};
 ghost use Rattle.lines.specs.inner.Room.{line_room};
 
 use lines::put_line;
+use statement::Statement;
+use writers::Text;
 
-pub fn put_flows(
-    parallel: i64,
-    shadow: i64,
-    common: i64,
-    noncommon: i64,
-    market: i64,
-    out: &mut [u8],
-    at: usize,
-) -> usize
-    requires { (5 * line_room ≤ at) × (at ≤ length out.old) }
-    ensures prepended { Prepended (flow_lines parallel shadow common noncommon market) out.old at out.new result }
-    ensures at_bound { at ≤ result + 5 * line_room }
+pub fn put_flows<const N: usize>(text: &mut Text<N>, s: &Statement)
+    requires { length text.old + 5 * line_room ≤ N }
+    ensures written { text.new ≡ text.old ++ flow_lines s.now.parallel s.now.shadow s.now.common s.now.noncommon s.now.market }
+    ensures room { length text.new ≤ length text.old + 5 * line_room }
 {
-    let at = put_line(b"market ", market, out, at);
-    let at = put_line(b"noncommon ", noncommon, out, at);
-    let at = put_line(b"common ", common, out, at);
-    let at = put_line(b"shadow ", shadow, out, at);
-    put_line(b"parallel ", parallel, out, at)
+    put_line(text, b"parallel ", s.parallel);
+    put_line(text, b"shadow ", s.shadow);
+    put_line(text, b"common ", s.common);
+    put_line(text, b"noncommon ", s.noncommon);
+    put_line(text, b"market ", s.market);
 }
 
 // Of a sheet without paths nothing.
-pub fn put_settled(paths: bool, settled: i64, out: &mut [u8], at: usize) -> usize
-    requires { (line_room ≤ at) × (at ≤ length out.old) }
-    ensures prepended { Prepended (settled_lines paths settled) out.old at out.new result }
-    ensures at_bound { at ≤ result + line_room }
+#[tactic(auto, unfolding(printout::specs::Lines::settled_lines, writers::specs::Text::ascii))]
+pub fn put_settled<const N: usize>(text: &mut Text<N>, s: &Statement)
+    requires { length text.old + line_room ≤ N }
+    ensures written { text.new ≡ text.old ++ settled_lines s.now.has_paths s.now.settled }
+    ensures room { length text.new ≤ length text.old + line_room }
 {
-    if !paths {
-        return at;
+    if s.has_paths {
+        put_line(text, b"settled ", s.settled);
     }
-    put_line(b"settled ", settled, out, at)
 }
 
-pub fn put_amounts(amount: i64, nyiso: i64, pjm: i64, out: &mut [u8], at: usize) -> usize
-    requires { (3 * line_room ≤ at) × (at ≤ length out.old) }
-    ensures prepended { Prepended (amount_lines amount nyiso pjm) out.old at out.new result }
-    ensures at_bound { at ≤ result + 3 * line_room }
+pub fn put_amounts<const N: usize>(text: &mut Text<N>, amount: i64, nyiso: i64, pjm: i64)
+    requires { length text.old + 3 * line_room ≤ N }
+    ensures written { text.new ≡ text.old ++ amount_lines amount nyiso pjm }
+    ensures room { length text.new ≤ length text.old + 3 * line_room }
 {
-    let at = put_line(b"PJM ", pjm, out, at);
-    let at = put_line(b"NYISO ", nyiso, out, at);
-    put_line(b"amount ", amount, out, at)
+    put_line(text, b"amount ", amount);
+    put_line(text, b"NYISO ", nyiso);
+    put_line(text, b"PJM ", pjm);
 }
 
-pub fn put_payment(
-    entitlement: i64,
-    price: i64,
-    amount: i64,
-    nyiso: i64,
-    pjm: i64,
-    out: &mut [u8],
-    at: usize,
-) -> usize
-    requires { (5 * line_room ≤ at) × (at ≤ length out.old) }
-    ensures prepended { Prepended (payment_lines entitlement price amount nyiso pjm) out.old at out.new result }
-    ensures at_bound { at ≤ result + 5 * line_room }
+pub fn put_payment<const N: usize>(text: &mut Text<N>, s: &Statement)
+    requires { length text.old + 5 * line_room ≤ N }
+    ensures written { text.new ≡ text.old ++ payment_lines s.now.entitlement s.now.price s.now.amount s.now.nyiso s.now.pjm }
+    ensures room { length text.new ≤ length text.old + 5 * line_room }
 {
-    let at = put_amounts(amount, nyiso, pjm, out, at);
-    let at = put_line(b"price ", price, out, at);
-    put_line(b"entitlement ", entitlement, out, at)
+    put_line(text, b"entitlement ", s.entitlement);
+    put_line(text, b"price ", s.price);
+    put_amounts(text, s.amount, s.nyiso, s.pjm);
 }

@@ -1,71 +1,63 @@
 #![tactic(auto)]
-// The lines of the printed statement, written from the last to the first as the writers ask.
-ghost use Rattle.std.specs.Prelude.{◌+◌, ◌*◌, ◌≤◌, pos, length};
-ghost use Rattle.writers.specs.inner.Prepended.{Prepended};
+// The lines of the printed statement, put at a text's end.
+ghost use Rattle.std.specs.Prelude.{◌≡◌, ◌+◌, ◌*◌, ◌≤◌, ◌++◌, length};
 ghost use Rattle.printout.specs.Lines.{figure, line, flowgate_line, gtl_line};
 ghost use Rattle.printout.specs.Listing.{refusal_line};
 ghost use Rattle.lines.specs.inner.Room.{label_room, line_room};
 
-use writers::{put_bytes, put_count, put_decimal, put_name};
+use writers::{Number, Text};
 
 // The room for a line: the longest label, a number of 64 bits and the line feed.
 pub const LINE: usize = 33;
 
 // A label and a number.
-fn put_figure(label: &[u8], z: i64, out: &mut [u8], at: usize) -> usize
-    requires { (length label.now ≤ label_room) × ((line_room ≤ at + 1) × (at ≤ length out.old)) }
-    ensures prepended { Prepended (figure label.now z) out.old at out.new result }
-    ensures at_bound { at + 1 ≤ result + line_room }
+#[tactic(auto, unfolding(printout::specs::Lines::figure))]
+fn put_figure<Z: Number, const N: usize>(text: &mut Text<N>, label: &[u8], z: Z)
+    requires { (length label.now ≤ label_room) × (length text.old + line_room ≤ N + 1) }
+    ensures written { text.new ≡ text.old ++ figure label.now (Z.value z) }
+    ensures room { length text.new + 1 ≤ length text.old + line_room }
 {
-    let digits = put_decimal(z, out, at);
-    put_bytes(label, out, digits)
+    text.put_bytes(label);
+    text.put_decimal(z);
 }
 
 // A label and a number on a line of their own.
-pub fn put_line(label: &[u8], z: i64, out: &mut [u8], at: usize) -> usize
-    requires { (length label.now ≤ label_room) × ((line_room ≤ at) × (at ≤ length out.old)) }
-    ensures prepended { Prepended (line label.now z) out.old at out.new result }
-    ensures at_bound { at ≤ result + line_room }
+#[tactic(auto, unfolding(printout::specs::Lines::line, writers::specs::Text::ascii))]
+pub fn put_line<Z: Number, const N: usize>(text: &mut Text<N>, label: &[u8], z: Z)
+    requires { (length label.now ≤ label_room) × (length text.old + line_room ≤ N) }
+    ensures written { text.new ≡ text.old ++ line label.now (Z.value z) }
+    ensures room { length text.new ≤ length text.old + line_room }
 {
-    let end = put_bytes(b"\n", out, at);
-    put_figure(label, z, out, end)
+    put_figure(text, label, z);
+    text.put_bytes(b"\n");
 }
 
-// A label and a count on a line of their own.
-pub fn put_count_line(label: &[u8], n: usize, out: &mut [u8], at: usize) -> usize
-    requires { (length label.now ≤ label_room) × ((line_room ≤ at) × (at ≤ length out.old)) }
-    ensures prepended { Prepended (line label.now (pos n)) out.old at out.new result }
-    ensures at_bound { at ≤ result + line_room }
+#[tactic(auto, unfolding(printout::specs::Lines::flowgate_line, writers::specs::Text::ascii))]
+pub fn put_flowgate<const N: usize>(text: &mut Text<N>, name: &[u8; 16])
+    requires { length text.old + 2 * line_room ≤ N }
+    ensures written { text.new ≡ text.old ++ flowgate_line name.now }
+    ensures room { length text.new ≤ length text.old + 2 * line_room }
 {
-    let end = put_bytes(b"\n", out, at);
-    let digits = put_count(n, out, end);
-    put_bytes(label, out, digits)
+    text.put_bytes(b"flowgate ");
+    text.put_name(name);
+    text.put_bytes(b"\n");
 }
 
-pub fn put_flowgate(name: &[u8; 16], out: &mut [u8], at: usize) -> usize
-    requires { (2 * line_room ≤ at) × (at ≤ length out.old) }
-    ensures prepended { Prepended (flowgate_line name.now) out.old at out.new result }
-    ensures at_bound { at ≤ result + 2 * line_room }
+pub fn put_gtl<const N: usize>(text: &mut Text<N>, flow: i64, first: i64, second: i64)
+    requires { length text.old + 3 * line_room ≤ N }
+    ensures written { text.new ≡ text.old ++ gtl_line flow first second }
+    ensures room { length text.new ≤ length text.old + 3 * line_room }
 {
-    let end = put_bytes(b"\n", out, at);
-    let digits = put_name(name, out, end);
-    put_bytes(b"flowgate ", out, digits)
+    put_figure(text, b"gtl ", flow);
+    put_figure(text, b" ", first);
+    put_line(text, b" ", second);
 }
 
-pub fn put_gtl(flow: i64, first: i64, second: i64, out: &mut [u8], at: usize) -> usize
-    requires { (3 * line_room ≤ at) × (at ≤ length out.old) }
-    ensures prepended { Prepended (gtl_line flow first second) out.old at out.new result }
-    ensures at_bound { at ≤ result + 3 * line_room }
+#[tactic(auto, unfolding(printout::specs::Listing::refusal_line, writers::specs::Text::ascii))]
+pub fn put_refusal<const N: usize>(text: &mut Text<N>, n: u8)
+    requires { length text.old + line_room ≤ N }
+    ensures written { text.new ≡ text.old ++ refusal_line n }
+    ensures room { length text.new ≤ length text.old + line_room }
 {
-    let at = put_line(b" ", second, out, at);
-    let at = put_figure(b" ", first, out, at);
-    put_figure(b"gtl ", flow, out, at)
-}
-
-pub fn put_refusal(n: u8, out: &mut [u8], at: usize) -> usize
-    requires { (line_room ≤ at) × (at ≤ length out.old) }
-    ensures prepended { Prepended (refusal_line n) out.old at out.new result }
-    ensures at_bound { at ≤ result + line_room }
-{
-    put_line(b"refused ", n as i64, out, at)
+    put_line(text, b"refused ", i64::from(n));
 }

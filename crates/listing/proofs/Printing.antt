@@ -10,9 +10,8 @@ use Rattle.statement.specs.declared.Statement.{Statement}
 use Rattle.statement.specs.Statement.{refused_as}
 use Rattle.writers.specs.inner.Wrote.{Wrote}
 use Rattle.writers.proofs.Writing.{none, counted}
-use Rattle.printout.specs.Listing.{refusal_line}
 use Rattle.listing.specs.declared.Printed.{Printed}
-use Rattle.printout.specs.Listing.{listing, shown}
+use Rattle.printout.specs.Listing.{listing, refusal_line, shown}
 use Rattle.listing.specs.Buffer.{checked, text, printed, buffer}
 
 module _ (s : Statement) (out : List ℕ) where

@@ -1,12 +1,10 @@
 -- The numbers that steps 4 to 6 pass on are the figures, and each fits.
 use Prim.Native.Nat.{ℕ, ◌+◌, ◌≤◌, ◌<◌}
 use native.Mathlib.Omega.{arith}
-use mathlib.Core.Path.{◌≡◌, refl, sym, ap, ◌∙◌}
-use mathlib.Core.Bool.{true, false}
+use mathlib.Core.Path.{◌≡◌, refl, ap, ◌∙◌}
 use mathlib.Core.List.{List}
-use lib.Dec.{eqb, lit<, lit≤}
+use lib.Dec.{lit<, lit≤}
 use lib.IntN.{ℤ, pos, ◌+ℤ◌, ◌-ℤ◌, ◌*ℤ◌}
-use borrow.Author.Tests.{eq-eqb, ne_eqb}
 use Rattle.integers.proofs.Machine.{Num, Op, rd, num_is, add, sub, mul}
 use Rattle.quotient.specs.declared.Quotient.{Quotient}
 use Rattle.quotient.specs.Rounded.{quotient}
@@ -28,13 +26,6 @@ use Rattle.generation_to_load.specs.declared.GenerationToLoad.{GenerationToLoad}
 use Rattle.generation_to_load.specs.Steps.{Ready, flow_for}
 use Rattle.generation_to_load.proofs.Laws.{is_valid, known}
 use Rattle.market_flow.specs.inner.Flow.{par_share, flow_of}
-
--- what a test on a code says, where the code read, m, is the content's k
-pub same_code : {m k n : ℕ} → m ≡ k → m ≡ n → eqb k n ≡ true
-same_code {k = k} {n = n} e h = eq-eqb k n (sym e ∙ h)
-
-pub other_code : {m k n : ℕ} → m ≡ k → (m ≡ n → ⊥) → eqb k n ≡ false
-other_code {k = k} {n = n} e h = ne_eqb k n (λ i. h (e ∙ i))
 
 module _ {s : List ℕ} {l : Layout} {b : Balance} {array : List ℤ} (r : Ready s l b array) where
   module _ {target : ℕ} (k : target ≤ l.pars) where

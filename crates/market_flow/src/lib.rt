@@ -1,14 +1,14 @@
 #![tactic(auto)]
 // Steps 4 to 6, from the flow for a target to the market flow (5.5 to 5.7). Flows are watts.
 ghost use Rattle.std.specs.Prelude.{◌≡◌, ◌<◌, ◌≤◌, nat_abs, ◌+ℤ◌, ◌-ℤ◌};
+ghost use Rattle.records.specs.Codes.{class_code};
 ghost use Rattle.sheet.specs.Sheet.{content_of};
 ghost use Rattle.figures.specs.Flow.{carried_term, carried_sum, redirect, non_common_redirect};
 ghost use Rattle.figures.specs.inner.Most.{most_generation_to_load, most_schedule, most_redirect};
-ghost use Rattle.generation_to_load.specs.Steps.{Ready};
 ghost use Rattle.market_flow.specs.inner.Flow.{par_share, flow_of};
 
-use generation_to_load::Balance;
-use records::{COMMON, NON_COMMON, NYISO, PAR, POINT};
+use generation_to_load::Served;
+use records::{Class, Rto, Subject};
 
 // The flowgate as a target; the PAR of index i is target i + 1.
 const FLOWGATE: usize = 0;
@@ -27,81 +27,57 @@ pub struct Flow {
 }
 
 // What of the flow on a PAR goes over the flowgate.
-fn over_par<'a>(s: &[u8], l: layout::Layout, b: Balance, zone_loads: &'a [i64; 32], i: usize) -> i64
-    requires { Ready s.now l b zone_loads.now × (i < l.pars) }
-    ensures { result ≡ par_share (content_of s.now) i }
+fn over_par(served: &Served<'_>, i: usize) -> i64
+    requires { i < served.now.sheet.layout.pars }
+    ensures { result ≡ par_share (content_of served.now.sheet.bytes.now) i }
 {
-    let gtl = generation_to_load::flow(s, l, b, zone_loads, i + 1);
-    let parallel = weighted_sums::weighted(s, l, POINT, NON_COMMON, i + 1);
-    let factor = sheet_records::factor_at(s, l, FLOWGATE, PAR, i);
+    let target = i + 1;
+    let gtl = generation_to_load::flow(served, target);
+    let parallel = weighted_sums::points(&served.sheet, Class::NonCommon, target);
+    let factor = sheet_records::factor_at(&served.sheet, FLOWGATE, Subject::Par, i);
     factor * (gtl.flow + parallel)
 }
 
-fn carried_term<'a>(
-    s: &[u8],
-    l: layout::Layout,
-    b: Balance,
-    zone_loads: &'a [i64; 32],
-    class: u8,
-    i: usize,
-) -> i64
-    requires { Ready s.now l b zone_loads.now × (i < l.pars) }
-    ensures { result ≡ carried_term (content_of s.now) class i }
+#[tactic(auto, unfolding(figures::specs::Flow::carried_term))]
+fn carried_term(served: &Served<'_>, class: Class, i: usize) -> i64
+    requires { i < served.now.sheet.layout.pars }
+    ensures { result ≡ carried_term (content_of served.now.sheet.bytes.now) (class_code class) i }
 {
-    let p = sheet_records::par_at(s, l, i);
-    if p.class != class {
-        return 0;
+    let p = sheet_records::par_at(&served.sheet, i);
+    if p.class == class.code() {
+        over_par(served, i)
+    } else {
+        0
     }
-    over_par(s, l, b, zone_loads, i)
 }
 
-fn carried_sum<'a>(
-    s: &[u8],
-    l: layout::Layout,
-    b: Balance,
-    zone_loads: &'a [i64; 32],
-    class: u8,
-) -> i64
-    requires { Ready s.now l b zone_loads.now }
-    ensures { result ≡ carried_sum (content_of s.now) class }
+fn carried_sum(served: &Served<'_>, class: Class) -> i64
+    ensures { result ≡ carried_sum (content_of served.now.sheet.bytes.now) (class_code class) }
 {
-    let n = l.pars;
-    let mut sum: i64 = 0;
-    let mut i = 0;
-    while i < n {
-        sum += carried_term(s, l, b, zone_loads, class, i);
-        i += 1;
-    }
-    sum
+    sums::sum_to(served.sheet.layout.pars, |i| carried_term(served, class, i))
 }
 
 // Step 5: carried − control.
-fn redirect<'a>(
-    s: &[u8],
-    l: layout::Layout,
-    b: Balance,
-    zone_loads: &'a [i64; 32],
-    class: u8,
-) -> i64
-    requires { Ready s.now l b zone_loads.now }
-    ensures { result ≡ redirect (content_of s.now) class }
+fn redirect(served: &Served<'_>, class: Class) -> i64
+    ensures { result ≡ redirect (content_of served.now.sheet.bytes.now) (class_code class) }
 {
-    let sum = carried_sum(s, l, b, zone_loads, class);
+    let sum = carried_sum(served, class);
     let carried = quotient::rounded_quotient(sum, 10000);
-    let control = weighted_sums::weighted(s, l, PAR, class, FLOWGATE);
+    let control = weighted_sums::pars(&served.sheet, class);
     carried.quotient - control
 }
 
 // NYISO's alone: 0 where NYISO is the Monitoring RTO.
-fn noncommon_redirect<'a>(s: &[u8], l: layout::Layout, b: Balance, zone_loads: &'a [i64; 32]) -> i64
-    requires { Ready s.now l b zone_loads.now }
-    ensures { result ≡ non_common_redirect (content_of s.now) }
+#[tactic(auto, unfolding(figures::specs::Flow::non_common_redirect, figures::specs::Flow::nyiso_monitors))]
+fn noncommon_redirect(served: &Served<'_>) -> i64
+    ensures { result ≡ non_common_redirect (content_of served.now.sheet.bytes.now) }
 {
-    let h = sheet_records::head_at(s, l);
-    if h.monitoring_rto == NYISO {
-        return 0;
+    let h = sheet_records::head_at(&served.sheet);
+    if h.monitoring_rto == Rto::Nyiso.code() {
+        0
+    } else {
+        redirect(served, Class::NonCommon)
     }
-    redirect(s, l, b, zone_loads, NON_COMMON)
 }
 
 // Step 6.
@@ -112,15 +88,14 @@ fn market_flow(gtl: i64, parallel: i64, shadow: i64, common: i64, noncommon: i64
     gtl + parallel + shadow - common - noncommon
 }
 
-pub fn flow_of<'a>(s: &[u8], l: layout::Layout, b: Balance, zone_loads: &'a [i64; 32]) -> Flow
-    requires { Ready s.now l b zone_loads.now }
-    ensures { result ≡ flow_of (content_of s.now) }
+pub fn flow_of(served: &Served<'_>) -> Flow
+    ensures { result ≡ flow_of (content_of served.now.sheet.bytes.now) }
 {
-    let g = generation_to_load::flow(s, l, b, zone_loads, FLOWGATE);
-    let parallel = weighted_sums::weighted(s, l, POINT, NON_COMMON, FLOWGATE);
-    let shadow = weighted_sums::weighted(s, l, POINT, COMMON, FLOWGATE);
-    let common = redirect(s, l, b, zone_loads, COMMON);
-    let noncommon = noncommon_redirect(s, l, b, zone_loads);
+    let g = generation_to_load::flow(served, FLOWGATE);
+    let parallel = weighted_sums::points(&served.sheet, Class::NonCommon, FLOWGATE);
+    let shadow = weighted_sums::points(&served.sheet, Class::Common, FLOWGATE);
+    let common = redirect(served, Class::Common);
+    let noncommon = noncommon_redirect(served);
     let market = market_flow(g.flow, parallel, shadow, common, noncommon);
     Flow {
         gtl: g.flow,

@@ -49,10 +49,3 @@ word_is kind =
     below_or 8 kind
     (λ h. rw (lt-leb kind 8 h) (text_is kind_words refl 0 ∙ sym (get_or-eq_default kind_words (ascii "unknown") h)))
     (λ h. rw (le-leb kind 8 h) (text_is kind_words refl kind ∙ same_default kind_words kind [] (ascii "unknown") (omega arith)))
-
--- each finds its room
-pub meaning_room_lem : (n at : ℕ) → meaning_room ≤ at → length (text_of n (packed meanings)) ≤ at
-meaning_room_lem n at h = rw (meaning_is n) (omega (arith, meaning_most n))
-
-pub word_room_lem : (kind at : ℕ) → word_room ≤ at → length (text_of (word_of kind) (packed kind_words)) ≤ at
-word_room_lem kind at h = rw (word_is kind) (omega (arith, word_most kind))

@@ -1,19 +1,17 @@
 #![tactic(auto)]
 // What the refusals mean, and the words for the kinds of records, for people.
-ghost use Rattle.std.specs.Prelude.{◌≡◌, ◌+◌, ◌≤◌, length};
-ghost use Rattle.writers.specs.inner.Prepended.{Prepended};
+ghost use Rattle.std.specs.Prelude.{◌≡◌, ◌≤◌, length};
 ghost use Rattle.meanings.specs.Meanings.{meaning, kind_word};
-ghost use Rattle.meanings.specs.inner.Tables.{meaning_room, word_room, word_of};
+ghost use Rattle.meanings.specs.inner.Tables.{meaning_room, word_room};
 
-use texts::put_text;
+use texts::text_of;
 
 // What a refusal means: where it is met.
-pub fn put_meaning(refusal: u8, out: &mut [u8], at: usize) -> usize
-    requires { (meaning_room ≤ at) × (at ≤ length out.old) }
-    ensures prepended { Prepended (meaning refusal) out.old at out.new result }
-    ensures at_bound { at ≤ result + meaning_room }
+pub fn meaning(refusal: u8) -> &'static [u8]
+    ensures value { result.now ≡ meaning refusal }
+    ensures room { length result.now ≤ meaning_room }
 {
-    put_text(
+    text_of(
         b"\0\
           the sheet is empty, or its first byte is not 1\0\
           kind byte not 1..8\0\
@@ -43,32 +41,17 @@ pub fn put_meaning(refusal: u8, out: &mut [u8], at: usize) -> usize
           it is not empty, and the interval has another flowgate name or Monitoring RTO\0\
           the buffer is shorter than the sheet\0\
           a path or a circulation is there, but fewer than four paths or no circulation\0",
-        refusal as usize,
-        out,
-        at,
+        usize::from(refusal),
     )
 }
 
-// Where a kind's word stands in the table: the word for unknown kinds is the first.
-fn word_of(kind: u8) -> usize
-    ensures { result ≡ word_of kind }
+// The word for a kind: the one for unknown kinds is the first.
+pub fn kind_word(kind: u8) -> &'static [u8]
+    ensures value { result.now ≡ kind_word kind }
+    ensures room { length result.now ≤ word_room }
 {
-    if kind <= 8 {
-        return kind as usize;
-    }
-    0
-}
-
-// The word for a kind.
-pub fn put_kind_word(kind: u8, out: &mut [u8], at: usize) -> usize
-    requires { (word_room ≤ at) × (at ≤ length out.old) }
-    ensures prepended { Prepended (kind_word kind) out.old at out.new result }
-    ensures at_bound { at ≤ result + word_room }
-{
-    put_text(
+    text_of(
         b"unknown\0head\0zone\0unit\0scheduling point\0PAR\0factor\0path\0circulation\0",
-        word_of(kind),
-        out,
-        at,
+        usize::from(if kind <= 8 { kind } else { 0 }),
     )
 }

@@ -13,7 +13,9 @@ use lib.Seq.{get_or-set_same, get_or-set_other}
 use Rattle.fields.specs.inner.Word.{be64}
 use Rattle.integers.proofs.Cases.{equal_or}
 use Rattle.names.specs.Names.{name_at, same_list, seen_before}
-use Rattle.names.proofs.SameNames.{same_words}
+use Rattle.names.specs.inner.Words.{has_words}
+use Rattle.fields.proofs.Bytes.{Bytes}
+use Rattle.names.proofs.SameNames.{same_words, words_are}
 use Rattle.name_index.specs.declared.Run.{Run}
 use Rattle.name_index.specs.inner.Index.{high_modulus, low_modulus, hash_of, hash_at, names_at, latest, place_of, longer, Indexed, with_hash, with_next}
 
@@ -162,6 +164,11 @@ module _ (s : List ℕ) (run : Run) where
               next = λ e. rw linked (next-reached (last - run.base - 1) here e);
             }
 
+  -- the name at hand, by its words
+  pub same_name_here : (at last : ℕ) {t : List ℕ} → Bytes s → at + 16 ≤ length s → Looked at t last → at ≡ place_of run run.count →
+      has_words s (place_of run (last - run.base - 1)) (be64 s at) (be64 s (at + 8)) ≡ same_list (name_at s (place_of run (last - run.base - 1))) (name_at s at)
+  same_name_here at last b h k e = words_are s s b b _ at (omega (arith, k.place)) h
+
   -- a table of zeros holds no name
   pub none_indexed : (size : ℕ) → run.count ≡ 0 → run.mask + 1 + run.base ≤ size → Indexed s run (replicate size 0)
   unfolding latest
@@ -242,3 +249,5 @@ module _ (s : List ℕ) (run : Run) where
     pub next-indexed : Indexed s (longer run) (with_next s run t)
     unfolding with_next with_hash grown link
     next-indexed = record { room = omega (arith, grown-length); heads = λ k l. rw (add-one n) (head-now k l); links = λ j l. link-now j (omega arith) }
+
+pub ruleset searching = (hash_small, search-first, search-on, search-end)

@@ -7,6 +7,7 @@ use native.Mathlib.Omega.{arith}
 use lib.ListN.{length, drop, get_or, length-take, length-drop}
 use lib.Seq.{ext_get_or, get_or-take, get_or-drop}
 use lib.Dec.{eqb}
+use lib.Pointwise.{pointwise}
 use borrow.Author.Tests.{eq-eqb, eqb-true, eqb-false}
 use Rattle.fields.specs.inner.Word.{be64}
 use Rattle.fields.proofs.Bytes.{Bytes, Agree, agree128, agrees128}
@@ -41,6 +42,14 @@ same_true (a ∷ x) (b ∷ y) e = go (eqb a b) refl e (same_true x y)
     go : (w : Bool) → eqb a b ≡ w → (w && (same_list x y)) ≡ true → (same_list x y ≡ true → x ≡ y) → a ∷ x ≡ b ∷ y
     go true p q f = rw (eqb-true a b p, f q)
     go false p q f = absurd (true≢false (sym q))
+
+-- `==` of two arrays is `same_list`
+pub same_pointwise : (x y : List ℕ) → pointwise eqb x y ≡ same_list x y
+unfolding same_list
+same_pointwise [] [] = refl
+same_pointwise [] (b ∷ y) = refl
+same_pointwise (a ∷ x) [] = refl
+same_pointwise (a ∷ x) (b ∷ y) = ap (λ (t : Bool). eqb a b && t) (same_pointwise x y)
 
 -- names are the same exactly when their words are
 name_byte : (u : List ℕ) (at k : ℕ) → k < 16 → get_or (name_at u at) k 0 ≡ get_or u (at + k) 0

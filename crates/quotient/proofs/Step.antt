@@ -1,5 +1,6 @@
 -- The rounded quotient from the division toward zero: one step further from zero where the tie rule says so.
-use mathlib.Core.Path.{◌≡◌, refl}
+use mathlib.Core.Path.{◌≡◌, refl, ap}
+use Rattle.std.specs.Int.{int_signum}
 use mathlib.Core.Bool.{Bool, true, false, cond}
 use Prim.Native.Nat.{ℕ, zero, suc, ◌+◌, ◌-◌, ◌/◌, ◌%◌, ◌<◌, ◌≤◌}
 use native.Mathlib.Omega.{arith}
@@ -46,3 +47,14 @@ step_small q r d = go r (goes_away (nat_abs q) (nat_abs r) (nat_abs d - nat_abs 
     go r false = omega arith
     go (pos a) true = omega arith
     go (negsuc a) true = omega arith
+
+-- the step as the code takes it: a remainder of zero never goes on
+pub signum_steps : (q r d : ℤ) → nat_abs r < nat_abs d → goes_away (nat_abs q) (nat_abs r) (nat_abs d - nat_abs r) ≡ true → int_signum r ≡ step q r d
+unfolding step away
+signum_steps q (pos zero) d h e = absurd (omega (arith, tie_away _ _ _ e))
+signum_steps q (pos (suc n)) d h e = rw e (ap pos (omega arith))
+signum_steps q (negsuc n) d h e = rw e
+
+pub stays : (q r d : ℤ) → goes_away (nat_abs q) (nat_abs r) (nat_abs d - nat_abs r) ≡ false → pos 0 ≡ step q r d
+unfolding step
+stays q r d e = rw e

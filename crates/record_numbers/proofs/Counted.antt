@@ -1,10 +1,11 @@
 -- Records counted one after the other.
 use Prim.Native.Nat.{ℕ, zero, suc, ◌+◌, ◌≤◌, ◌<◌}
-use mathlib.Core.Path.{◌≡◌, refl}
-use mathlib.Core.Bool.{cond}
+use mathlib.Core.Path.{◌≡◌, refl, ◌∙◌}
+use mathlib.Core.Bool.{Bool, true, false, cond}
 use mathlib.Core.List.{List, [], ◌∷◌}
 use native.Mathlib.Omega.{arith}
 use borrow.Author.Tests.{le-leb, lt-leb}
+use mir.Val.{bool_byte}
 use lib.Dec.{eqb}
 use lib.ListN.{length, get_or, take, drop, drop_of_length-le}
 use lib.Seq.{drop-drop, get_or-take, length-take-le}
@@ -44,6 +45,10 @@ pub none_there : (sheet : List ℕ) (at : ℕ) → length sheet ≤ at → 0 ≡
 unfolding record_number
 none_there sheet at h = rw (le-leb (length sheet) at h) refl
 
+one_is : (b : Bool) → (bool_byte b ≡ cond b 1 0) × (bool_byte b ≤ 1)
+one_is true = (refl, omega arith)
+one_is false = (refl, omega arith)
+
 -- the loop: of the records before a place those before `from` are counted
 pub record Counting (sheet : List ℕ) (at kind number from : ℕ) : Type 0 where
   pub within : at < length sheet
@@ -57,14 +62,16 @@ module _ (sheet : List ℕ) (at kind : ℕ) where
 
   module _ (number from : ℕ) (c : Counting sheet at kind number from) where
     -- the record at `from` is counted
-    pub next : from < at → (one body : ℕ) → one ≤ 1 → one ≡ cond (eqb (byte_at sheet from) kind) 1 0 → body ≡ body_length (byte_at sheet from) →
-        Counting sheet at kind (number + one) (from + 1 + body)
-    next h one body m p q =
+    pub next : from < at → (one body : ℕ) → one ≡ bool_byte (eqb (byte_at sheet from) kind) → body ≡ body_length (byte_at sheet from) → Counting sheet at kind (number + one) (from + (1 + body))
+    next h one body t q =
+        let b = one_is (eqb (byte_at sheet from) kind) in
+        let p = t ∙ b.0 in
+        let a : from + (1 + body) ≡ from + 1 + body = omega arith in
         let n = c.sum in
         let l = length-take-le at sheet (omega (arith, c.within)) in
         let e : byte_at (take at sheet) from ≡ byte_at sheet from = get_or-take at sheet from 0 h in
         let r = rw (e, ← p, ← q) at (remaining_next kind from (take at sheet) (omega arith)) in
-        record { within = c.within; kind_is = c.kind_is; most = omega (arith, c.most); sum = omega arith }
+        rw a (record { within = c.within; kind_is = c.kind_is; most = omega (arith, c.most, t, b.1); sum = omega arith })
 
     -- all are counted
     pub done : at ≤ from → number ≡ record_number sheet at

@@ -2,81 +2,93 @@
 // Rows 2 to 13 and 28 of an interval sheet, by a record's fields and by how many records of each kind there are.
 ghost use Rattle.std.specs.Prelude.{◌≡◌, not};
 ghost use Rattle.rows.specs.Rows.{row};
+ghost use Rattle.rows.specs.Refusals.{row_of};
 ghost use Rattle.names.specs.Names.{name_ok};
+ghost use Rattle.record_table.specs.Kinds.{code};
 ghost use Rattle.records.specs.Content.{bears};
 ghost use Rattle.due_factors.specs.Due.{due_list};
 ghost use Rattle.due_factors.specs.inner.Places.{Few};
-ghost use Rattle.record_rows.specs.Rows.{unknown_kind, out_of_order, one_too_many, front_row, head_row, zone_row, unit_row, point_row, par_row, factor_row, path_row, circulation_row, end_row};
+ghost use Rattle.record_rows.specs.Rows.{front_row, head_row, zone_row, unit_row, point_row, par_row, factor_row, path_row, circulation_row, end_row};
 
 use due_factors::{Counts, Due};
+use record_table::Kind;
 use records::{Circulation, Factor, Head, Par, Path, Point, Unit, Zone};
-use rows::row;
+use rows::{Refusal, row};
 
-// Rows 2 to 5 of a record of a kind with `left` bytes behind its kind byte: `last` is the kind of the one before, `earlier` how many of its own kind stand before.
-pub fn front_row(last: u8, kind: u8, earlier: usize, left: usize) -> u8
-    ensures { result ≡ front_row last kind earlier left 0 }
+// Rows 3 to 5 of a record of a kind with `left` bytes behind its kind byte; row 2 lets a kind through. `last` is the kind's byte of the one before, or 0 before the first, `earlier` how many of its own kind stand before.
+#[tactic(auto, unfolding(crate::specs::Rows::front_row))]
+pub fn front_row(last: u8, kind: Kind, earlier: usize, left: usize) -> Result<(), Refusal>
+    ensures { row_of result ≡ front_row last (code kind) earlier left 0 }
 {
-    let unknown = (kind < 1) | (8 < kind);
-    let short = left < record_table::body_length(kind);
-    let falls = (kind < last) | ((kind == 1) & (1 <= earlier));
-    let limited = !((kind < 2) | (5 < kind)) | !((kind < 7) | (8 < kind));
-    let surplus = limited & (record_table::most_of(kind) <= earlier);
-    row(2, unknown, row(3, short, row(4, falls, row(5, surplus, 0))))
+    let short = left < kind.body_length();
+    let falls = (kind.code() < last) | ((kind == Kind::Head) & (1 <= earlier));
+    let limited = !matches!(kind, Kind::Head | Kind::Factor);
+    let surplus = limited & (kind.most() <= earlier);
+    row(Refusal::CutShort, short)?;
+    row(Refusal::OutOfOrder, falls)?;
+    row(Refusal::OneTooMany, surplus)
 }
 
-// Rows 6 and 7, then those below. Here and below, `well` is whether the name is well formed.
-fn name_rows(well: bool, repeated: bool, below: u8) -> u8
-    ensures { result ≡ row 6 (not well) (row 7 repeated below) }
+// Rows 6 and 7. Here and below, `well` is whether the name is well formed.
+fn name_rows(well: bool, repeated: bool) -> Result<(), Refusal>
+    ensures { row_of result ≡ row 6 (not well) (row 7 repeated 0) }
 {
-    row(6, !well, row(7, repeated, below))
+    row(Refusal::BadName, !well)?;
+    row(Refusal::RepeatedName, repeated)
 }
 
-pub fn head_row(well: bool, h: Head) -> u8
+#[tactic(auto, unfolding(crate::specs::Rows::head_row))]
+pub fn head_row(well: bool, h: Head) -> Result<(), Refusal>
     requires { well ≡ name_ok h.name }
-    ensures { result ≡ head_row h }
+    ensures { row_of result ≡ head_row h }
 {
-    let codes = field_rows::no_rto(h.monitoring_rto);
-    let numbers = field_rows::head_outside(h);
-    name_rows(well, false, row(8, codes, row(9, numbers, 0)))
+    name_rows(well, false)?;
+    row(Refusal::UnknownCode, field_rows::no_rto(h.monitoring_rto))?;
+    row(Refusal::NumberOutside, field_rows::head_outside(h))
 }
 
-pub fn zone_row(well: bool, repeated: bool, z: Zone) -> u8
+#[tactic(auto, unfolding(crate::specs::Rows::zone_row))]
+pub fn zone_row(well: bool, repeated: bool, z: Zone) -> Result<(), Refusal>
     requires { well ≡ name_ok z.name }
-    ensures { result ≡ zone_row repeated z }
+    ensures { row_of result ≡ zone_row repeated z }
 {
-    let numbers = field_rows::zone_outside(z);
-    name_rows(well, repeated, row(9, numbers, 0))
+    name_rows(well, repeated)?;
+    row(Refusal::NumberOutside, field_rows::zone_outside(z))
 }
 
-pub fn unit_row(well: bool, zones: usize, repeated: bool, u: Unit) -> u8
+#[tactic(auto, unfolding(crate::specs::Rows::unit_row))]
+pub fn unit_row(well: bool, zones: usize, repeated: bool, u: Unit) -> Result<(), Refusal>
     requires { well ≡ name_ok u.name }
-    ensures { result ≡ unit_row zones repeated u }
+    ensures { row_of result ≡ unit_row zones repeated u }
 {
-    let codes = field_rows::no_zone_of(zones, u.zone);
-    let numbers = field_rows::unit_outside(u);
-    name_rows(well, repeated, row(8, codes, row(9, numbers, 0)))
+    name_rows(well, repeated)?;
+    row(Refusal::UnknownCode, field_rows::no_zone_of(zones, u.zone))?;
+    row(Refusal::NumberOutside, field_rows::unit_outside(u))
 }
 
-pub fn point_row(well: bool, zones: usize, repeated: bool, p: Point) -> u8
+#[tactic(auto, unfolding(crate::specs::Rows::point_row))]
+pub fn point_row(well: bool, zones: usize, repeated: bool, p: Point) -> Result<(), Refusal>
     requires { well ≡ name_ok p.name }
-    ensures { result ≡ point_row zones repeated p }
+    ensures { row_of result ≡ point_row zones repeated p }
 {
-    let place = p.place;
-    let codes = field_rows::no_type(p.sort) | field_rows::place_unknown(zones, place);
-    let numbers = field_rows::point_outside(p);
-    name_rows(well, repeated, row(8, codes, row(9, numbers, 0)))
+    name_rows(well, repeated)?;
+    let codes = field_rows::no_type(p.sort) | field_rows::place_unknown(zones, p.place);
+    row(Refusal::UnknownCode, codes)?;
+    row(Refusal::NumberOutside, field_rows::point_outside(p))
 }
 
-pub fn par_row(well: bool, repeated: bool, p: Par) -> u8
+#[tactic(auto, unfolding(crate::specs::Rows::par_row))]
+pub fn par_row(well: bool, repeated: bool, p: Par) -> Result<(), Refusal>
     requires { well ≡ name_ok p.name }
-    ensures { result ≡ par_row repeated p }
+    ensures { row_of result ≡ par_row repeated p }
 {
-    let codes = field_rows::no_type(p.class);
-    let numbers = field_rows::par_outside(p);
-    name_rows(well, repeated, row(8, codes, row(9, numbers, 0)))
+    name_rows(well, repeated)?;
+    row(Refusal::UnknownCode, field_rows::no_type(p.class))?;
+    row(Refusal::NumberOutside, field_rows::par_outside(p))
 }
 
 // Whether the factor is the one for d.
+#[tactic(auto, unfolding(records::specs::Content::bears))]
 fn bears(f: Factor, d: Due) -> bool
     ensures { result ≡ bears f d.target d.subject d.index }
 {
@@ -84,44 +96,45 @@ fn bears(f: Factor, d: Due) -> bool
 }
 
 // Rows 10 and 11 of the factor behind `earlier` others.
-pub fn factor_row(n: Counts, earlier: usize, f: Factor) -> u8
+#[tactic(auto, unfolding(crate::specs::Rows::factor_row))]
+pub fn factor_row(n: Counts, earlier: usize, f: Factor) -> Result<(), Refusal>
     requires { Few n }
-    ensures { result ≡ factor_row (due_list n) earlier f }
+    ensures { row_of result ≡ factor_row (due_list n) earlier f }
 {
     if due_factors::due_count(n) <= earlier {
-        return 10;
+        return Err(Refusal::NotDue);
     }
-    let d = due_factors::due_at(n, earlier);
-    row(
-        10,
-        !bears(f, d),
-        row(11, field_rows::factor_beyond(f.factor), 0),
-    )
+    row(Refusal::NotDue, !bears(f, due_factors::due_at(n, earlier)))?;
+    row(Refusal::FactorOutside, field_rows::factor_beyond(f.factor))
 }
 
-pub fn path_row(well: bool, repeated: bool, p: Path) -> u8
-    requires { well ≡ name_ok p.name }
-    ensures { result ≡ path_row repeated p }
+#[tactic(auto, unfolding(crate::specs::Rows::path_row))]
+pub fn path_row(well: bool, named_before: bool, path: Path) -> Result<(), Refusal>
+    requires { well ≡ name_ok path.name }
+    ensures { row_of result ≡ path_row named_before path }
 {
-    let power = field_rows::path_outside(p);
-    let factor = field_rows::path_factor_outside(p);
-    name_rows(well, repeated, row(9, power, row(11, factor, 0)))
+    name_rows(well, named_before)?;
+    row(Refusal::NumberOutside, field_rows::path_outside(path))?;
+    let factor = field_rows::path_factor_outside(path);
+    row(Refusal::FactorOutside, factor)
 }
 
-pub fn circulation_row(c: Circulation) -> u8
-    ensures { result ≡ circulation_row c }
+#[tactic(auto, unfolding(crate::specs::Rows::circulation_row))]
+pub fn circulation_row(c: Circulation) -> Result<(), Refusal>
+    ensures { row_of result ≡ circulation_row c }
 {
-    row(9, field_rows::circulation_outside(c), 0)
+    row(Refusal::NumberOutside, field_rows::circulation_outside(c))
 }
 
 // Rows 12, 13 and 28.
-pub fn end_row(n: Counts, factors: usize, paths: usize, circulations: usize) -> u8
+#[tactic(auto, unfolding(crate::specs::Rows::end_row))]
+pub fn end_row(n: Counts, factors: usize, paths: usize, circulations: usize) -> Result<(), Refusal>
     requires { Few n }
-    ensures { result ≡ end_row n factors paths circulations }
+    ensures { row_of result ≡ end_row n factors paths circulations }
 {
-    let none = (n.zones == 0) | (n.units == 0);
-    let still_due = factors < due_factors::due_count(n);
+    row(Refusal::NoZoneOrUnit, (n.zones == 0) | (n.units == 0))?;
+    row(Refusal::StillDue, factors < due_factors::due_count(n))?;
     let lake = (1 <= paths) | (1 <= circulations);
     let in_part = lake & ((paths < 4) | (circulations < 1));
-    row(12, none, row(13, still_due, row(28, in_part, 0)))
+    row(Refusal::LakeInPart, in_part)
 }

@@ -11,6 +11,9 @@ use Rattle.integers.proofs.Cases.{below_or}
 use Rattle.rows.proofs.NotMet.{both}
 use Rattle.record_table.specs.Table.{by_kind, total, body_length, KindRow, no_kind, kind_rows, kind_of, last_kind}
 use Rattle.record_table.specs.inner.Sizes.{size, most_size}
+use Rattle.record_table.specs.Kinds.{code}
+use Rattle.record_table.specs.declared.kind.Kind.{Kind}
+use Rattle.record_table.specs.declared.kind.Kind.TheVariants as kind
 
 -- a fact of each kind
 pub kinds : (P : ℕ → Type 0) → P 1 → P 2 → P 3 → P 4 → P 5 → P 6 → P 7 → P 8 → (kind : ℕ) → 1 ≤ kind → kind ≤ last_kind → P kind
@@ -68,3 +71,24 @@ name_room k n = leb-true _ _ (implied (kind_of k).named _ (checked no_kind (λ (
 pub named_kind : (kind : ℕ) → 1 ≤ kind → kind ≤ last_kind → (kind ≡ 6 → ⊥) → (kind ≡ 8 → ⊥) → (kind_of kind).named ≡ true
 named_kind k g h a b =
     kinds (λ (j : ℕ). k ≡ j → (kind_of j).named ≡ true) (λ e. refl) (λ e. refl) (λ e. refl) (λ e. refl) (λ e. refl) (λ e. absurd (a e)) (λ e. refl) (λ e. absurd (b e)) k g h refl
+
+-- the bytes of the kinds
+pub code_least : (k : Kind) → 1 ≤ code k
+code_least kind.Head = omega arith
+code_least kind.Zone = omega arith
+code_least kind.Unit = omega arith
+code_least kind.Point = omega arith
+code_least kind.Par = omega arith
+code_least kind.Factor = omega arith
+code_least kind.Path = omega arith
+code_least kind.Circulation = omega arith
+
+pub code_most : (k : Kind) → code k ≤ last_kind
+code_most kind.Head = omega arith
+code_most kind.Zone = omega arith
+code_most kind.Unit = omega arith
+code_most kind.Point = omega arith
+code_most kind.Par = omega arith
+code_most kind.Factor = omega arith
+code_most kind.Path = omega arith
+code_most kind.Circulation = omega arith

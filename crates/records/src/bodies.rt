@@ -10,25 +10,26 @@ fn name_of(b: &[u8]) -> [u8; 16]
     requires { 16 ≤ length b.now }
     ensures { result ≡ name_at b.now 0 }
 {
-    [
-        b[0], b[1], b[2], b[3], b[4], b[5], b[6], b[7], b[8], b[9], b[10], b[11], b[12], b[13],
-        b[14], b[15],
-    ]
+    let mut name = [0; 16];
+    name.copy_from_slice(&b[..16]);
+    name
 }
 
-fn place_of(n: u8) -> Place
-    ensures { result ≡ place_of n }
-{
-    if n == 0 { Place::Proxy } else { Place::Line(n) }
+impl From<u8> for Place {
+    ghost from_gives = { λ n place. place ≡ place_of n };
+
+    fn from(n: u8) -> Self {
+        if n == 0 { Place::Proxy } else { Place::Line(n) }
+    }
 }
 
+#[tactic(auto, unfolding(crate::specs::Bodies::head_of))]
 pub fn head_of(b: &[u8]) -> Head
     requires { body_length 1 ≤ length b.now }
     ensures { result ≡ head_of b.now }
 {
-    let name = name_of(b);
     Head {
-        name,
+        name: name_of(b),
         monitoring_rto: b[16],
         seconds: fields::ube16_at(b, 17),
         monitoring_price: fields::be32_at(b, 19),
@@ -36,40 +37,39 @@ pub fn head_of(b: &[u8]) -> Head
     }
 }
 
+#[tactic(auto, unfolding(crate::specs::Bodies::zone_of))]
 pub fn zone_of(b: &[u8]) -> Zone
     requires { body_length 2 ≤ length b.now }
     ensures { result ≡ zone_of b.now }
 {
-    let name = name_of(b);
     Zone {
-        name,
+        name: name_of(b),
         load: fields::be32_at(b, 16),
         losses: fields::be32_at(b, 20),
     }
 }
 
+#[tactic(auto, unfolding(crate::specs::Bodies::unit_of))]
 pub fn unit_of(b: &[u8]) -> Unit
     requires { body_length 3 ≤ length b.now }
     ensures { result ≡ unit_of b.now }
 {
-    let name = name_of(b);
     Unit {
-        name,
+        name: name_of(b),
         zone: b[16],
         output: fields::be32_at(b, 17),
     }
 }
 
+#[tactic(auto, unfolding(crate::specs::Bodies::point_of))]
 pub fn point_of(b: &[u8]) -> Point
     requires { body_length 4 ≤ length b.now }
     ensures { result ≡ point_of b.now }
 {
-    let name = name_of(b);
-    let place = place_of(b[17]);
     Point {
-        name,
+        name: name_of(b),
         sort: b[16],
-        place,
+        place: Place::from(b[17]),
         import: fields::be32_at(b, 18),
         export: fields::be32_at(b, 22),
         wheel_in: fields::be32_at(b, 26),
@@ -77,19 +77,20 @@ pub fn point_of(b: &[u8]) -> Point
     }
 }
 
+#[tactic(auto, unfolding(crate::specs::Bodies::par_of))]
 pub fn par_of(b: &[u8]) -> Par
     requires { body_length 5 ≤ length b.now }
     ensures { result ≡ par_of b.now }
 {
-    let name = name_of(b);
     Par {
-        name,
+        name: name_of(b),
         class: b[16],
         actual: fields::sbe32_at(b, 17),
         target: fields::sbe32_at(b, 21),
     }
 }
 
+#[tactic(auto, unfolding(crate::specs::Bodies::factor_of))]
 pub fn factor_of(b: &[u8]) -> Factor
     requires { body_length 6 ≤ length b.now }
     ensures { result ≡ factor_of b.now }
@@ -102,18 +103,19 @@ pub fn factor_of(b: &[u8]) -> Factor
     }
 }
 
+#[tactic(auto, unfolding(crate::specs::Bodies::path_of))]
 pub fn path_of(b: &[u8]) -> Path
     requires { body_length 7 ≤ length b.now }
     ensures { result ≡ path_of b.now }
 {
-    let name = name_of(b);
     Path {
-        name,
+        name: name_of(b),
         flow: fields::sbe32_at(b, 16),
         factor: fields::sbe16_at(b, 20),
     }
 }
 
+#[tactic(auto, unfolding(crate::specs::Bodies::circulation_of))]
 pub fn circulation_of(b: &[u8]) -> Circulation
     requires { body_length 8 ≤ length b.now }
     ensures { result ≡ circulation_of b.now }

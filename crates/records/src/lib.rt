@@ -105,3 +105,6 @@ pub struct Circulation {
 }
 
 pub mod bodies;
+mod codes;
+
+pub use codes::{Class, Rto, Subject};

@@ -1,1 +1,2 @@
 pub mod NotMet
+pub mod Refusing

@@ -11,22 +11,21 @@ use lib.Signed.{◌≤ℤ◌}
 use Rattle.records.specs.Codes.{nyiso, common}
 use Rattle.records.specs.Content.{Content, head}
 use Rattle.record_rows.specs.inner.Valid.{Valid}
-use Rattle.entitlements.specs.declared.Entitlement.TheVariants as found
+use Rattle.entitlements.specs.Entitlements as found
 use Rattle.entitlements.specs.Entitlements.{row14, entries_of, look_up, entitlement}
 use Rattle.entitlements.proofs.Answers.{value_within}
 use Rattle.entitlements.proofs.ByRecord.{look_other_length}
 use Rattle.figures.specs.Balance.{balance_row}
 use Rattle.figures.specs.Flow.{most_flow, flow_row}
-use Rattle.figures.specs.Lake.{has_paths, settlement_flow}
+use Rattle.figures.specs.Lake.{settlement_flow}
 use Rattle.figures.specs.Payment.{in_watts, difference, amount}
 use Rattle.figures.specs.inner.Most.{most_power, most_generation_to_load, most_schedule, most_redirect, most_market, most_amount}
 use Rattle.figures.proofs.Ranges.{parallel-within, shadow-within}
 use Rattle.figures.proofs.Bounds.{first-remainder-small, generation-to-load-small, second-remainder-small, redirect_small, non_common_redirect_small, market_flow_small, without_paths}
 use Rattle.figures.proofs.Payments.{price_within, price_least, flow_within, in_watts_within, amount_within, payments_opposite, payment_within}
 use Rattle.statement.specs.declared.Statement.{Statement}
-use Rattle.settlement.specs.declared.Interval.{Interval}
-use Rattle.settlement.specs.Settled.{inputs, figures_at, interval_at, flowgate, settled}
-use Rattle.settlement.proofs.Promised.{holds_valid, NoRowMet, no_row_met, statement_is}
+use Rattle.settlement.specs.Settled.{inputs, figures_at, flowgate, settled}
+use Rattle.settlement.proofs.Promised.{holds_valid, no_row_met, statement_is}
 
 -- a price is not negative, and PJM's payment is the negative of NYISO's. Row 22 leaves the market flow of a sheet with paths as large as it can be
 pub record Bounded (s : Statement) : Type 0 where

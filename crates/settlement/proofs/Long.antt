@@ -4,8 +4,8 @@ use mathlib.Core.Path.{◌≡◌, refl, sym, ap, ◌∙◌}
 use mathlib.Core.List.{List}
 use lib.ListN.{take}
 use Rattle.records.specs.Content.{Content}
-use Rattle.sheet.specs.declared.Outcome.{Outcome}
-use Rattle.sheet.specs.declared.Outcome.TheVariants.{Accepted, Refused}
+use Rattle.sheet.specs.Sheet.{Outcome}
+use Rattle.sheet.specs.Sheet.{Accepted, Refused}
 use Rattle.sheet.specs.Sheet.{read_sheet, content_of}
 use Rattle.sheet.specs.inner.Longest.{deciding}
 use Rattle.sheet.proofs.Long as sheets

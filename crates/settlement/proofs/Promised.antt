@@ -18,8 +18,8 @@ use Rattle.record_rows.specs.inner.Valid.{Valid, HeadFits}
 use Rattle.sheet.specs.Sheet.{Reading, holds, fails, reading, read_sheet, content_of}
 use Rattle.sheet.proofs.Accepted.{valid}
 use Rattle.sheet.proofs.Refusal.{refused_some}
-use Rattle.entitlements.specs.declared.Entitlement.{Entitlement}
-use Rattle.entitlements.specs.declared.Entitlement.TheVariants as found
+use Rattle.entitlements.specs.Entitlements.{Entitlement}
+use Rattle.entitlements.specs.Entitlements as found
 use Rattle.entitlements.specs.Entitlements.{Entry, row14, entries_of, look_up, entitlement}
 use Rattle.figures.specs.Balance.{balance_row}
 use Rattle.figures.specs.Flow.{flow_row}

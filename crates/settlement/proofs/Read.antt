@@ -1,8 +1,8 @@
 -- The interval by the reader's answer: what the definition says of the reading, it says of the outcome and the content too.
 use mathlib.Core.Path.{◌≡◌, refl}
 use Rattle.records.specs.Content.{Content}
-use Rattle.sheet.specs.declared.Outcome.{Outcome}
-use Rattle.sheet.specs.declared.Outcome.TheVariants.{Accepted, Refused}
+use Rattle.sheet.specs.Sheet.{Outcome}
+use Rattle.sheet.specs.Sheet.{Accepted, Refused}
 use Rattle.sheet.specs.Sheet.{Reading, holds, fails, reading, outcome, read_sheet, content_in, content_of}
 use Rattle.settlement.specs.declared.Interval.{Interval}
 use Rattle.settlement.specs.Settled.{Inputs, refused_by, after_sheet, by_sheet, interval}

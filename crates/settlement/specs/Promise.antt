@@ -2,7 +2,7 @@
 use Rattle.std.specs.Prelude.{ℕ, ◌≡◌, List, ℤ, pos, ◌+ℤ◌}
 use Rattle.records.specs.Content.{Content}
 use Rattle.sheet.specs.Sheet.{holds, reading}
-use Rattle.entitlements.specs.declared.Entitlement.TheVariants.{Found}
+use Rattle.entitlements.specs.Entitlements.{Found}
 use Rattle.entitlements.specs.Entitlements.{entitlement}
 use Rattle.accuracy.specs.Accurate.{Accurate}
 use Rattle.statement.specs.declared.Statement.{Statement}

@@ -3,8 +3,8 @@ use Rattle.std.specs.Prelude.{ℕ, cond, List, eqb, ℤ}
 use Rattle.records.specs.Codes.{nyiso, pjm, common}
 use Rattle.records.specs.Content.{Content, head}
 use Rattle.sheet.specs.Sheet.{Reading, holds, fails, reading}
-use Rattle.entitlements.specs.declared.Entitlement.{Entitlement}
-use Rattle.entitlements.specs.declared.Entitlement.TheVariants as found
+use Rattle.entitlements.specs.Entitlements.{Entitlement}
+use Rattle.entitlements.specs.Entitlements as found
 use Rattle.entitlements.specs.Entitlements.{entitlement}
 use Rattle.figures.specs.Balance.{balance_row}
 use Rattle.figures.specs.Flow.{generation_to_load, first_remainder, second_remainder, parallel, shadow, redirect, non_common_redirect, market_flow, flow_row}

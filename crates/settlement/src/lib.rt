@@ -1,15 +1,16 @@
 #![tactic(auto)]
 // The settlement of one interval, from a sheet and an entitlement list: refusals 1 to 22 and 28.
 ghost use Rattle.std.specs.Prelude.{◌≡◌, ◌≤◌, nat_abs};
-ghost use Rattle.sheet.specs.declared.Outcome.TheVariants.{Accepted};
-ghost use Rattle.sheet.specs.Sheet.{read_sheet, content_of};
-ghost use Rattle.generation_to_load.specs.Steps.{Ready};
+ghost use Rattle.rows.specs.Refusals.{number};
+ghost use Rattle.sheet.specs.Sheet.{content_of};
 ghost use Rattle.settlement.specs.Settled.{inputs, refused_by, after_balance, after_list, after_sheet, interval};
-ghost use Rattle.settlement.specs.inner.Parts.{interval_of};
+ghost use Rattle.settlement.specs.inner.Parts.{interval_of, Settles};
 ghost use Rattle.settlement.specs.Promise.{Promise};
 
-use generation_to_load::Balance;
+use generation_to_load::Served;
 use records::Head;
+use rows::Refusal;
+use sheet::AcceptedSheet;
 use statement::Statement;
 
 // What settling an interval answers: the statement with the sheet's seconds and Monitoring RTO.
@@ -20,30 +21,18 @@ pub struct Interval {
     pub monitoring_rto: u8,
 }
 
-// A refused interval: the number, and zeros everywhere else.
-fn refused(row: u8) -> Interval
-    ensures { result ≡ refused_by row }
-{
-    Interval {
-        statement: statement::refused(row),
-        seconds: 0,
-        monitoring_rto: 0,
-    }
-}
-
 fn interval_of(
-    h: Head,
-    f: market_flow::Flow,
+    h: &Head,
+    f: &market_flow::Flow,
     has_paths: bool,
     settled: i64,
-    p: payment::Payment,
+    p: &payment::Payment,
 ) -> Interval
-    ensures { result ≡ interval_of h f has_paths settled p }
+    ensures { result ≡ interval_of h.now f.now has_paths settled p.now }
 {
-    let name = h.name;
     let statement = Statement {
         refusal: 0,
-        name,
+        name: h.name,
         has_paths,
         gtl: f.gtl,
         first_remainder: f.first_remainder,
@@ -68,59 +57,56 @@ fn interval_of(
 }
 
 // The settlement flow, and the payment on it. Row 22 is judged on that flow, before anything is paid.
-fn settle_flow<'a>(
-    s: &[u8],
-    l: layout::Layout,
-    b: Balance,
-    zone_loads: &'a [i64; 32],
-    e: i64,
-) -> Interval
-    requires { Ready s.now l b zone_loads.now × (nat_abs e ≤ 100000) }
-    ensures { result ≡ after_balance (content_of s.now) e }
+fn settle_flow(served: &Served<'_>, e: i64) -> Result<Interval, Refusal>
+    requires { nat_abs e ≤ 100000 }
+    ensures { Settles result (after_balance (content_of served.now.sheet.bytes.now) e) }
 {
-    let f = market_flow::flow_of(s, l, b, zone_loads);
+    let f = market_flow::flow_of(served);
     let watts = payment::in_watts(e);
-    let settled = settlement_flow::settlement_flow(s, l, f.market, watts);
-    let flow_row = payment::flow_row(settled);
-    if flow_row != 0 {
-        return refused(flow_row);
-    }
-    let h = sheet_records::head_at(s, l);
-    let p = payment::pay(h, settled, watts);
-    interval_of(h, f, 1 <= l.paths, settled, p)
+    let settled = settlement_flow::settlement_flow(&served.sheet, f.market, watts);
+    payment::flow_row(settled)?;
+    let h = sheet_records::head_at(&served.sheet);
+    let p = payment::pay(&h, settled, watts);
+    Ok(interval_of(&h, &f, 1 <= served.sheet.layout.paths, settled, &p))
 }
 
 // Loads, generation and their balance, then the flow.
-fn settle_balance(s: &[u8], l: layout::Layout, e: i64) -> Interval
-    requires { (read_sheet s.now ≡ Accepted l) × (nat_abs e ≤ 100000) }
-    ensures { result ≡ after_list (content_of s.now) e }
+fn settle_balance(sheet: &AcceptedSheet<'_>, e: i64) -> Result<Interval, Refusal>
+    requires { nat_abs e ≤ 100000 }
+    ensures { Settles result (after_list (content_of sheet.now.bytes.now) e) }
 {
-    let load = generation_to_load::loads(s, l);
-    let generation = generation_to_load::generation(s, l);
-    let balance_row = balance::balance_row(load, generation, l.zones);
-    if balance_row != 0 {
-        return refused(balance_row);
-    }
-    let b = Balance {
-        net_load: load.net_load,
-        gross_output: generation.gross_output,
-        net_generation: generation.net_generation,
-        final_generation: generation.final_generation,
-    };
-    let zone_loads = load.zone_loads;
-    settle_flow(s, l, b, &zone_loads, e)
+    let served = balance::served(sheet)?;
+    settle_flow(&served, e)
 }
 
 // An accepted sheet: the entitlement list, then the balance.
-pub fn settle_sheet(sheet: &[u8], l: layout::Layout, list: &[u8]) -> Interval
-    requires { read_sheet sheet.now ≡ Accepted l }
-    ensures { result ≡ after_sheet (content_of sheet.now) (inputs sheet.now list.now) }
+pub fn settle_sheet(sheet: &AcceptedSheet<'_>, list: &[u8]) -> Result<Interval, Refusal>
+    ensures { Settles result (after_sheet (content_of sheet.now.bytes.now) (inputs sheet.now.bytes.now list.now)) }
 {
-    let h = sheet_records::head_at(sheet, l);
-    let name = h.name;
-    match entitlements::find(list, &name) {
-        entitlements::Entitlement::Refused(row) => refused(row),
-        entitlements::Entitlement::Found(e) => settle_balance(sheet, l, e),
+    let h = sheet_records::head_at(sheet);
+    let e = entitlements::find(list, &h.name)?;
+    settle_balance(sheet, e)
+}
+
+// The interval of a sheet and a list, or the first refusal on the way.
+fn settle_bytes(sheet: &[u8], list: &[u8]) -> Result<Interval, Refusal>
+    ensures { Settles result (interval (inputs sheet.now list.now)) }
+{
+    match sheet::read(sheet) {
+        Err(refused) => Err(refused.refusal),
+        Ok(accepted) => settle_sheet(&accepted, list),
+    }
+}
+
+// A refused interval: the number, and zeros everywhere else.
+#[tactic(auto, unfolding(statement::specs::Statement::refused_as))]
+fn refused(refusal: Refusal) -> Interval
+    ensures { result ≡ refused_by (number refusal) }
+{
+    Interval {
+        statement: statement::refused(refusal.number()),
+        seconds: 0,
+        monitoring_rto: 0,
     }
 }
 
@@ -129,9 +115,9 @@ pub fn settle_interval(sheet: &[u8], list: &[u8]) -> Interval
     ensures value { result ≡ interval (inputs sheet.now list.now) }
     ensures promise { Promise sheet.now list.now result.statement }
 {
-    match sheet::read(sheet) {
-        sheet::Outcome::Refused(row, _) => refused(row),
-        sheet::Outcome::Accepted(l) => settle_sheet(sheet, l, list),
+    match settle_bytes(sheet, list) {
+        Ok(i) => i,
+        Err(refusal) => refused(refusal),
     }
 }
 

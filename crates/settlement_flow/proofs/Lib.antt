@@ -1,2 +1,3 @@
+pub mod OfThree
 pub mod Paths
-pub mod Same
+pub mod Terms

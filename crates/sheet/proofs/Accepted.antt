@@ -26,7 +26,7 @@ use Rattle.record_rows.specs.Rows.{first_row, no_zone_or_unit, still_due, lake_i
 use Rattle.layout.specs.declared.Layout.{Layout}
 use Rattle.layout.specs.inner.Places.{counts_in, extent, Allowed, body_at, content_at, due_of}
 use Rattle.layout.specs.Layout.{layout_of}
-use Rattle.sheet.specs.declared.Outcome.TheVariants.{Accepted}
+use Rattle.sheet.specs.Sheet.{Accepted}
 use Rattle.sheet.specs.Sheet.{read_sheet, content_of}
 use Rattle.sheet.specs.Passed.{Passed, none, more}
 use Rattle.sheet.proofs.Passing.{passed_laid, passed_placed, passed_allowed}

@@ -17,7 +17,7 @@ use Rattle.record_table.specs.Table.{last_kind}
 use Rattle.record_table.proofs.ByKind.{kinds}
 use Rattle.record_rows.specs.inner.Valid.{NamesFit}
 use Rattle.layout.specs.declared.Layout.{Layout}
-use Rattle.sheet.specs.declared.Outcome.TheVariants.{Accepted}
+use Rattle.sheet.specs.Sheet.{Accepted}
 use Rattle.sheet.specs.Sheet.{read_sheet, content_of}
 use Rattle.sheet.proofs.RecordsFine.{passed_head, passed_zone, passed_unit, passed_point, passed_par, passed_path}
 use Rattle.sheet.proofs.Accepted.{passed, one_head}

@@ -1,5 +1,5 @@
 -- What each answer of the reading says of the sheet.
-use Prim.Native.Nat.{ℕ, zero, suc, ◌+◌, ◌-◌, ◌≤◌, ◌<◌}
+use Prim.Native.Nat.{ℕ, zero, suc, ◌+◌, ◌≤◌, ◌<◌}
 use mathlib.Core.Path.{◌≡◌, refl, sym, ap, ◌∙◌}
 use mathlib.Core.Bool.{Bool, true, false, not, cond}
 use mathlib.Core.Logic.{◌⊎◌, inl, inr, ⊎_elim}
@@ -16,7 +16,7 @@ use Rattle.records.specs.Content.{Content, no_content, with_record}
 use Rattle.record_rows.specs.Rows.{first_row, record_row, last_row}
 use Rattle.layout.specs.declared.Layout.{Layout}
 use Rattle.layout.specs.Layout.{layout_of}
-use Rattle.sheet.specs.declared.Outcome.TheVariants.{Accepted, Refused}
+use Rattle.sheet.specs.Sheet.{Accepted, Refused}
 use Rattle.sheet.specs.Sheet.{Reading, holds, fails, unless, records_from, reading, outcome, read_sheet, number_in, content_in, content_of}
 use Rattle.sheet.specs.Passed.{Passed, none, more}
 use Rattle.sheet.specs.inner.Answers.{row_at, Accepts, Refuses}

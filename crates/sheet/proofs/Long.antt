@@ -18,7 +18,7 @@ use Rattle.layout.specs.declared.Layout.{Layout}
 use Rattle.layout.specs.inner.Places.{counts_in, extent, Allowed, due_of}
 use Rattle.layout.specs.Layout.{layout_of}
 use Rattle.layout.proofs.Places.{extent_is}
-use Rattle.sheet.specs.declared.Outcome.TheVariants.{Accepted}
+use Rattle.sheet.specs.Sheet.{Accepted}
 use Rattle.sheet.specs.Sheet.{Reading, holds, fails, records_from, reading, read_sheet, content_of}
 use Rattle.sheet.specs.inner.Longest.{longest_sheet, deciding}
 use Rattle.sheet.specs.Passed.{Passed, none, more}

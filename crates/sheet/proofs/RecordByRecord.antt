@@ -12,7 +12,7 @@ use Rattle.record_table.specs.Table.{body_length, body_in}
 use Rattle.records.specs.Content.{Content, count_of, no_content, with_record}
 use Rattle.record_rows.specs.Rows.{record_row, last_row, first_row}
 use Rattle.record_rows.proofs.FrontRows.{Fronted, front_pass}
-use Rattle.sheet.specs.declared.Outcome.TheVariants.{Refused}
+use Rattle.sheet.specs.Sheet.{Refused}
 use Rattle.sheet.specs.Sheet.{holds, fails, unless, records_from, reading, read_sheet}
 use Rattle.sheet.specs.Passed.{Passed, none, more}
 

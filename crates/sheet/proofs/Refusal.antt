@@ -1,5 +1,5 @@
 -- Where a refusal points: the records before that place pass their rows, and the record there, or the sheet's end, meets the refusal's row.
-use Prim.Native.Nat.{ℕ, ◌+◌, ◌-◌, ◌≤◌, ◌<◌}
+use Prim.Native.Nat.{ℕ, ◌+◌, ◌≤◌, ◌<◌}
 use mathlib.Core.Path.{◌≡◌, refl, sym, ◌∙◌}
 use mathlib.Core.Bool.{Bool, true, false}
 use mathlib.Core.List.{List}
@@ -14,7 +14,7 @@ use Rattle.record_table.specs.Table.{body_length}
 use Rattle.records.specs.Content.{Content}
 use Rattle.due_factors.specs.Due.{counts_of}
 use Rattle.record_rows.specs.Rows.{unknown_kind, front_row, no_zone_or_unit, still_due, lake_in_part, record_row, last_row, end_row, first_row}
-use Rattle.sheet.specs.declared.Outcome.TheVariants.{Refused}
+use Rattle.sheet.specs.Sheet.{Refused}
 use Rattle.sheet.specs.Sheet.{Reading, holds, fails, reading, outcome, read_sheet}
 use Rattle.sheet.specs.inner.Answers.{row_at, Refuses}
 use Rattle.sheet.proofs.Passing.{passed_within}

@@ -4,8 +4,7 @@ use Rattle.record_table.specs.Table.{body_length, body_in}
 use Rattle.records.specs.Content.{Content, no_content, with_record}
 use Rattle.record_rows.specs.Rows.{first_row, record_row, last_row}
 use Rattle.layout.specs.Layout.{layout_of}
-use Rattle.sheet.specs.declared.Outcome.{Outcome}
-use Rattle.sheet.specs.declared.Outcome.TheVariants.{Accepted, Refused}
+use Rattle.layout.specs.declared.Layout.{Layout}
 
 -- a sheet's content, or the refusal's number and where the offending record begins
 pub data Reading : Type 0 where
@@ -40,7 +39,11 @@ number_in (fails number at) = number
 unfoldable pub content_of : List ℕ → Content
 content_of s = content_in (reading s)
 
--- the reader's answer: of an accepted sheet how many records there are of each kind
+-- the reader's answer: of an accepted sheet how many records there are of each kind; else the refusal's number and the place
+pub data Outcome : Type 0 where
+  Accepted : Layout → Outcome
+  Refused : ℕ → ℕ → Outcome
+
 abbrev pub outcome : Reading → Outcome
 outcome (holds c) = Accepted (layout_of c)
 outcome (fails number at) = Refused number at

@@ -2,3 +2,4 @@ pub mod Answers
 pub mod GoodFactors
 pub mod Longest
 pub mod RowHere
+pub mod Answered

@@ -1,107 +1,92 @@
 #![tactic(auto)]
 // The interval sheet: read once, and refused by rows 1 to 13 and 28 or accepted with its layout.
-ghost use Rattle.std.specs.Prelude.{◌≡◌, List, ℕ, ◌+◌, ◌*◌, ◌≤◌, ◌<◌, ◌^◌, length, drop, true};
+mod answer;
+
+ghost use Rattle.std.specs.Prelude.{◌≡◌, List, ℕ, MatchResult, ◌+◌, ◌*◌, ◌≤◌, ◌<◌, ◌^◌, length, true};
 ghost use Rattle.fields.specs.Fields.{byte_at};
-ghost use Rattle.rows.specs.Rows.{row, cut_short};
-ghost use Rattle.record_table.specs.Table.{body_length, body_in};
-ghost use Rattle.records.specs.Bodies.{factor_of};
+ghost use Rattle.record_table.specs.Table.{kind_of, body_length};
+ghost use Rattle.record_table.specs.Kinds.{code};
 ghost use Rattle.records.specs.Content.{Content};
-ghost use Rattle.record_rows.specs.Rows.{factor_row, body_row, last_row};
+ghost use Rattle.record_rows.specs.Rows.{body_row, last_row};
 ghost use Rattle.layout.specs.Layout.{layout_of};
 ghost use Rattle.record_table.specs.inner.Sizes.{size};
-ghost use Rattle.layout.specs.inner.Places.{due_of, Allowed, content_at};
+ghost use Rattle.layout.specs.inner.Places.{Allowed, content_at};
 ghost use Rattle.layout.specs.inner.Listed.{Listed};
-ghost use Rattle.sheet.specs.Sheet.{holds, unless, records_from, outcome, read_sheet};
+ghost use Rattle.sheet.specs.Sheet.{holds, unless, outcome, read_sheet};
+ghost use Rattle.sheet.specs.Sheet as reader;
 ghost use Rattle.sheet.specs.Passed.{Passed};
-ghost use Rattle.sheet.specs.inner.RowHere.{RowHere, Behind};
-ghost use Rattle.sheet.specs.inner.GoodFactors.{key_of, Good, lesser};
+ghost use Rattle.rows.specs.Refusals.{number, row_of};
+ghost use Rattle.sheet.specs.inner.Answered.{outcome_of, Named};
+ghost use Rattle.sheet.specs.inner.RowHere.{RowHere};
+ghost use Rattle.sheet.specs.inner.GoodFactors.{key_of, Good};
 
-use layout::{Layout, counts_in};
-use record_table::{FACTOR_BODY, FACTOR_KIND};
+pub use answer::AcceptedSheet;
+use layout::Layout;
+use names::name_ok_at;
+use record_table::{FACTOR_BODY, Kind};
 use records::bodies;
+use rows::Refusal;
 
 // How many bytes a factor's record has: one of kind, then the body.
 const FACTOR_SIZE: usize = FACTOR_BODY + 1;
 
-// The sheet's layout, or the refusal's number and the place where the offending record begins.
+// Where a sheet is refused: by which row, and where the offending record begins.
 #[derive(Clone, Copy)]
-pub enum Outcome {
-    Accepted(Layout),
-    Refused(u8, usize),
+pub struct Refused {
+    pub refusal: Refusal,
+    pub place: usize,
 }
 
-// A place behind records that pass: how many there are of each kind.
-#[derive(Clone, Copy)]
-struct Reached {
-    l: Layout,
-    at: usize,
-}
-
-// Rows 6 to 9 of the body b of a record with a name, up to the PARs.
-fn named_row(zones: usize, kind: u8, repeated: bool, b: &[u8]) -> u8
-    requires { (1 ≤ kind) × (kind ≤ 5) × (body_length kind ≤ length b.now) }
-    ensures { (c : Content) → length c.zones ≡ zones → result ≡ body_row c kind repeated b.now }
+// Rows 6 to 11 of the body b of a record with a name.
+#[tactic(auto, unfolding(record_rows::specs::Rows::body_row, records::specs::Bodies::head_of, records::specs::Bodies::zone_of, records::specs::Bodies::unit_of, records::specs::Bodies::point_of, records::specs::Bodies::par_of, records::specs::Bodies::path_of))]
+fn named_row(zones: usize, kind: Kind, repeated: bool, b: &[u8]) -> Result<(), Refusal>
+    requires { ((kind_of (code kind)).named ≡ true) × (body_length (code kind) ≤ length b.now) }
+    ensures { (c : Content) → length c.zones ≡ zones → row_of result ≡ body_row c (code kind) repeated b.now }
 {
-    let well = names::name_ok_at(b, 0);
+    let well = name_ok_at(b, 0);
     match kind {
-        1 => record_rows::head_row(well, bodies::head_of(b)),
-        2 => record_rows::zone_row(well, repeated, bodies::zone_of(b)),
-        3 => record_rows::unit_row(well, zones, repeated, bodies::unit_of(b)),
-        4 => record_rows::point_row(well, zones, repeated, bodies::point_of(b)),
-        _ => record_rows::par_row(well, repeated, bodies::par_of(b)),
+        Kind::Head => record_rows::head_row(well, bodies::head_of(b)),
+        Kind::Zone => record_rows::zone_row(well, repeated, bodies::zone_of(b)),
+        Kind::Unit => record_rows::unit_row(well, zones, repeated, bodies::unit_of(b)),
+        Kind::Point => record_rows::point_row(well, zones, repeated, bodies::point_of(b)),
+        Kind::Par => record_rows::par_row(well, repeated, bodies::par_of(b)),
+        _ => record_rows::path_row(well, repeated, bodies::path_of(b)),
     }
 }
 
-// Rows 3, 10 and 11 of a factor with the bytes b behind its kind byte. Row 4 fits none that no path and no circulation stand before.
-fn factor_row(l: Layout, b: &[u8]) -> u8
-    requires { Allowed l }
-    ensures { result ≡ row 3 (cut_short (body_length 6) (length b.now)) (factor_row (due_of l) l.factors (factor_of (body_in 6 b.now))) }
+// The first of rows 3 to 11 that fits the record of a kind at a place. The table holds the names of the last kind, then of this record's.
+fn known_row(
+    s: &[u8],
+    l: Layout,
+    last: u8,
+    kind: Kind,
+    at: usize,
+    table: &mut [u16],
+) -> Result<(), Refusal>
+    requires { Passed s.now at last (content_at s.now l) × (at < length s.now) × Listed s.now l last table.old × (code kind ≡ byte_at s.now at) }
+    ensures { RowHere s.now l last at table.new (row_of result) }
 {
-    if b.len() < FACTOR_BODY {
-        return 3;
-    }
-    let f = bodies::factor_of(&b[0..FACTOR_BODY]);
-    record_rows::factor_row(counts_in(l), l.factors, f)
-}
-
-// The first row that fits the record at a place, or 0: a record up to the factors, behind others of these kinds. The table holds the names of the last kind, then of this record's.
-fn record_row(s: &[u8], l: Layout, last: u8, at: usize, table: &mut [u16]) -> u8
-    requires { Passed s.now at last (content_at s.now l) × (at < length s.now) × Listed s.now l last table.old × (last ≤ 6) × (byte_at s.now at ≤ 6) }
-    ensures { RowHere s.now l last at table.new result }
-{
-    let kind = s[at];
     let from = at + 1;
-    if kind == FACTOR_KIND {
-        return factor_row(l, &s[from..]);
+    record_rows::front_row(last, kind, l.count_of(kind), s.len() - from)?;
+    let b = &s[from..from + kind.body_length()];
+    match kind {
+        Kind::Factor => record_rows::factor_row(l.counts_in(), l.factors, bodies::factor_of(b)),
+        Kind::Circulation => record_rows::circulation_row(bodies::circulation_of(b)),
+        _ => {
+            let repeated = layout::repeated(s, l, kind, at, table);
+            named_row(l.zones, kind, repeated, b)
+        }
     }
-    let earlier = layout::count_of(l, kind);
-    let front = record_rows::front_row(last, kind, earlier, s.len() - from);
-    if front != 0 {
-        return front;
-    }
-    let repeated = layout::repeated(s, l, kind, at, table);
-    let to = from + record_table::body_length(kind);
-    named_row(l.zones, kind, repeated, &s[from..to])
 }
 
-// The same of a record behind the factors: only a path or the circulation passes there.
-fn lake_row(s: &[u8], l: Layout, last: u8, at: usize, table: &mut [u16]) -> u8
-    requires { Passed s.now at last (content_at s.now l) × (at < length s.now) × Listed s.now l last table.old × Behind last (byte_at s.now at) }
-    ensures { RowHere s.now l last at table.new result }
+// The kind of the record at a place, or the first row that fits it.
+fn record_row(s: &[u8], l: Layout, last: u8, at: usize, table: &mut [u16]) -> Result<Kind, Refusal>
+    requires { Passed s.now at last (content_at s.now l) × (at < length s.now) × Listed s.now l last table.old }
+    ensures { RowHere s.now l last at table.new (row_of result) × Named (byte_at s.now at) result }
 {
-    let kind = s[at];
-    let from = at + 1;
-    let earlier = layout::count_of(l, kind);
-    let front = record_rows::front_row(last, kind, earlier, s.len() - from);
-    if front != 0 {
-        return front;
-    }
-    let b = &s[from..from + record_table::body_length(kind)];
-    if kind == record_table::CIRCULATION_KIND {
-        return record_rows::circulation_row(bodies::circulation_of(b));
-    }
-    let repeated = layout::repeated(s, l, kind, at, table);
-    record_rows::path_row(names::name_ok_at(b, 0), repeated, bodies::path_of(b))
+    let kind = Kind::try_from(s[at])?;
+    known_row(s, l, last, kind, at, table)?;
+    Ok(kind)
 }
 
 // Whether a factor with this target, subject and index stands at a place and passes.
@@ -109,14 +94,8 @@ fn good_factor(s: &[u8], at: usize, key: u32) -> bool
     requires { at + size 6 ≤ length s.now }
     ensures { result ≡ true → Good s.now at key }
 {
-    let due = (s[at] == FACTOR_KIND) & (fields::be32_at(s, at + 1) == key);
+    let due = (s[at] == Kind::Factor.code()) & (fields::be32_at(s, at + 1) == key);
     due & !field_rows::factor_beyond(fields::sbe16_at(s, at + 5))
-}
-
-fn lesser(a: usize, b: usize) -> usize
-    ensures { (result ≡ lesser a b) × (result ≤ a) × (result ≤ b) }
-{
-    if a < b { a } else { b }
 }
 
 // How many good factors, up to `most`, follow one another from a place on, with rising index.
@@ -124,17 +103,13 @@ fn good_factors(s: &[u8], at: usize, key: u32, most: usize) -> usize
     requires { (at ≤ length s.now) × (key + most < 2 ^ 32) }
     ensures { (result ≤ most) × ((k : ℕ) → k < result → Good s.now (at + size 6 * k) (key + k)) }
 {
-    let whole = lesser((s.len() - at) / FACTOR_SIZE, most);
-    let mut n = 0;
-    let mut p = at;
-    while n < whole {
-        if !good_factor(s, p, key + n as u32) {
+    let whole = ((s.len() - at) / FACTOR_SIZE).min(most);
+    for n in 0..whole {
+        if !good_factor(s, at + FACTOR_SIZE * n, key + n as u32) {
             return n;
         }
-        n += 1;
-        p += FACTOR_SIZE;
     }
-    n
+    whole
 }
 
 fn key_of(d: due_factors::Due) -> u32
@@ -147,103 +122,67 @@ fn key_of(d: due_factors::Due) -> u32
 }
 
 // Past the factors behind a factor that pass too, up to the last of their target and subject. Each is judged by its bytes in one go; the first that is not good is left to `record_row`.
-fn past_factors(s: &[u8], l: Layout, last: u8, at: usize) -> Reached
-    requires { Passed s.now at last (content_at s.now l) }
-    ensures { (at ≤ result.at) × Passed s.now result.at last (content_at s.now result.l) × ((table : List ℕ) → Listed s.now l last table → Listed s.now result.l last table) }
+fn past_factors(s: &[u8], l: &mut Layout, last: u8, at: usize) -> usize
+    requires { Passed s.now at last (content_at s.now l.old) }
+    ensures { (at ≤ result) × Passed s.now result last (content_at s.now l.new) × ((table : List ℕ) → Listed s.now l.old last table → Listed s.now l.new last table) }
 {
-    if last != FACTOR_KIND {
-        return Reached { l, at };
+    if last != Kind::Factor.code() {
+        return at;
     }
-    let counts = counts_in(l);
+    let counts = l.counts_in();
     if due_factors::due_count(counts) <= l.factors {
-        return Reached { l, at };
+        return at;
     }
     let most = due_factors::more_of_run(counts, l.factors);
     let key = key_of(due_factors::due_at(counts, l.factors));
     let n = good_factors(s, at, key, most);
-    Reached {
-        l: Layout {
-            heads: l.heads,
-            zones: l.zones,
-            units: l.units,
-            points: l.points,
-            pars: l.pars,
-            factors: l.factors + n,
-            paths: l.paths,
-            circulations: l.circulations,
-        },
-        at: at + FACTOR_SIZE * n,
-    }
+    l.factors += n;
+    at + FACTOR_SIZE * n
 }
 
 // The answer at the sheet's end.
-fn ended(l: Layout, at: usize) -> Outcome
+fn ended(l: Layout, at: usize) -> Result<Layout, Refused>
     requires { Allowed l }
-    ensures { (c : Content) → layout_of c ≡ l → result ≡ outcome (unless (last_row c) at (holds c)) }
+    ensures { (c : Content) → layout_of c ≡ l → outcome_of result ≡ outcome (unless (last_row c) at (holds c)) }
 {
-    let row = record_rows::end_row(counts_in(l), l.factors, l.paths, l.circulations);
-    if row != 0 {
-        return Outcome::Refused(row, at);
+    match record_rows::end_row(l.counts_in(), l.factors, l.paths, l.circulations) {
+        Err(refusal) => Err(Refused { refusal, place: at }),
+        Ok(()) => Ok(l),
     }
-    Outcome::Accepted(l)
 }
 
-// The answer from a record behind the factors on.
-fn read_lake(s: &[u8], l: Layout, last: u8, at: usize, table: &mut [u16]) -> Outcome
-    requires { Passed s.now at last (content_at s.now l) × Listed s.now l last table.old × Behind last (byte_at s.now at) }
-    ensures { result ≡ outcome (records_from at 0 last (content_at s.now l) (drop at s.now)) }
+// The layout of a sheet that is accepted.
+fn laid_out(s: &[u8]) -> Result<Layout, Refused>
+    ensures { outcome_of result ≡ read_sheet s.now }
 {
-    let mut l = l;
-    let mut last = last;
-    let mut at = at;
-    while at < s.len() {
-        let row = lake_row(s, l, last, at, table);
-        if row != 0 {
-            return Outcome::Refused(row, at);
-        }
-        last = s[at];
-        l = layout::counted(l, last);
-        at = at + 1 + record_table::body_length(last);
+    if s.is_empty() || s[0] != Kind::Head.code() {
+        return Err(Refused {
+            refusal: Refusal::NoHead,
+            place: 0,
+        });
     }
-    ended(l, at)
-}
-
-pub fn read(s: &[u8]) -> Outcome
-    ensures { result ≡ read_sheet s.now }
-{
-    if s.len() == 0 {
-        return Outcome::Refused(1, 0);
-    }
-    if s[0] != record_table::HEAD_KIND {
-        return Outcome::Refused(1, 0);
-    }
-    let mut l = Layout {
-        heads: 0,
-        zones: 0,
-        units: 0,
-        points: 0,
-        pars: 0,
-        factors: 0,
-        paths: 0,
-        circulations: 0,
-    };
+    let mut l = Layout::default();
     let mut table = [0u16; layout::TABLE_SIZE];
     let mut last = 0;
     let mut at = 0;
+    // No `for`: records have lengths of their own.
     while at < s.len() {
-        if FACTOR_KIND < s[at] {
-            return read_lake(s, l, last, at, &mut table);
+        match record_row(s, l, last, at, &mut table) {
+            Err(refusal) => return Err(Refused { refusal, place: at }),
+            Ok(kind) => {
+                l.add(kind);
+                last = kind.code();
+                at = past_factors(s, &mut l, last, at + 1 + kind.body_length());
+            }
         }
-        let number = record_row(s, l, last, at, &mut table);
-        if number != 0 {
-            return Outcome::Refused(number, at);
-        }
-        last = s[at];
-        l = layout::counted(l, last);
-        at = at + 1 + record_table::body_length(last);
-        let past = past_factors(s, l, last, at);
-        l = past.l;
-        at = past.at;
     }
     ended(l, at)
+}
+
+pub fn read(s: &[u8]) -> Result<AcceptedSheet<'_>, Refused>
+    ensures { MatchResult result (λ a. (a.bytes.now ≡ s.now) × (read_sheet s.now ≡ reader.Accepted a.layout))
+        (λ r. read_sheet s.now ≡ reader.Refused (number r.refusal) r.place) }
+{
+    let layout = laid_out(s)?;
+    Ok(AcceptedSheet { bytes: s, layout })
 }

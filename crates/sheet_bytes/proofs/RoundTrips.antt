@@ -10,7 +10,7 @@ use Rattle.records.specs.declared.Head.{Head}
 use Rattle.records.specs.Content.{Content, no_head, head}
 use Rattle.layout.specs.declared.Layout.{Layout}
 use Rattle.layout.specs.Layout.{layout_of}
-use Rattle.sheet.specs.declared.Outcome.TheVariants.{Accepted}
+use Rattle.sheet.specs.Sheet.{Accepted}
 use Rattle.sheet.specs.Sheet.{holds, reading, number_in, outcome, read_sheet, content_of}
 use Rattle.sheet.specs.inner.Longest.{longest_sheet}
 use Rattle.sheet.proofs.Answers.{accepted_holds}

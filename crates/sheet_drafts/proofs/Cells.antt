@@ -10,35 +10,22 @@ use Rattle.drafts.specs.Draft.{cells}
 use Rattle.due_factors.proofs.DueList.{length_due, per_most}
 use Rattle.layout.specs.declared.Layout.{Layout}
 use Rattle.layout.specs.inner.Places.{counts_in}
-use Rattle.sheet.specs.declared.Outcome.TheVariants.{Accepted}
+use Rattle.sheet.specs.Sheet.{Accepted}
 use Rattle.sheet.specs.Sheet.{read_sheet}
 use Rattle.sheet.proofs.Accepted.{allowed, all_due}
 
--- the first i of n records stand in an array of `most` cells
-pub record Filled {A : Type 0} (most : ℕ) (none : A) (l : List A) (n : ℕ) (cs : List A) (i : ℕ) : Type 0 where
-  pub within : i ≤ n
-  pub all : n ≡ length l
-  pub room : n < most
-  pub are : cs ≡ cells most none (take i l)
+module _ {A : Type 0} (most : ℕ) (none : A) (l : List A) where
+  -- one more of the records stands in the array
+  pub more : {cs : List A} {i : ℕ} → cs ≡ cells most none (take i l) → i < length l → length l ≤ most → {a : A} → a ≡ get_or l i none → set cs i a ≡ cells most none (take (i + 1) l)
+  more {i = i} are h g e =
+      let m : length (take i l) ≡ i = length-take-le i l (omega arith) in
+      let m' : length (take (i + 1) l) ≡ i + 1 = length-take-le (i + 1) l (omega arith) in
+      let k : most - i ≡ suc (most - (i + 1)) = omega arith in
+      let t : take (i + 1) l ≡ take i l ++ (get_or l i none ∷ []) = rw add-one (take-suc l i none h) in
+      rw (e, m', t, append_snoc, are, m, k) (set_at (take i l) none (replicate (most - (i + 1)) none) (get_or l i none) i m)
 
-module _ {A : Type 0} {most : ℕ} {none : A} {l : List A} {n : ℕ} {cs : List A} where
-  pub begun : n ≡ length l → n < most → cs ≡ cells most none [] → Filled most none l n cs 0
-  begun e h f = record { within = omega arith; all = e; room = h; are = f }
-
-  module _ {i : ℕ} (f : Filled most none l n cs i) where
-    one_more : i < length l → length l ≤ most → set cs i (get_or l i none) ≡ cells most none (take (i + 1) l)
-    one_more h g =
-        let m : length (take i l) ≡ i = length-take-le i l (omega arith) in
-        let m' : length (take (i + 1) l) ≡ i + 1 = length-take-le (i + 1) l (omega arith) in
-        let k : most - i ≡ suc (most - (i + 1)) = omega arith in
-        let t : take (i + 1) l ≡ take i l ++ (get_or l i none ∷ []) = rw add-one (take-suc l i none h) in
-        rw (m', t, append_snoc, f.are, m, k) (set_at (take i l) none (replicate (most - (i + 1)) none) (get_or l i none) i m)
-
-    pub more : {a : A} → i < n → a ≡ get_or l i none → Filled most none l n (set cs i a) (i + 1)
-    more h e = rw e (record { within = omega arith; all = f.all; room = f.room; are = one_more (omega arith) (omega arith) })
-
-    pub whole : n ≤ i → cs ≡ cells most none l
-    whole h = f.are ∙ rw (take_all i l (omega arith))
+  pub whole : {cs : List A} {i : ℕ} → cs ≡ cells most none (take i l) → length l ≤ i → cs ≡ cells most none l
+  whole {i = i} are h = are ∙ rw (take_all i l h)
 
 -- an accepted sheet has at most 2888 factors
 pub few_factors : (s : List ℕ) (l : Layout) → read_sheet s ≡ Accepted l → l.factors ≤ 2888

@@ -1,98 +1,82 @@
 #![tactic(auto)]
 // A sheet's draft: its records in arrays, with zeros behind them; and a draft of zeros.
-mod lake;
-
-ghost use Rattle.std.specs.Prelude.{◌≡◌, [], map, ◌<◌, get_or};
-ghost use Rattle.records.specs.Content.{no_content, no_zone, no_unit, no_par, no_factor};
-ghost use Rattle.drafts.specs.Draft.{cells, drafted, no_draft_point, draft_of};
-ghost use Rattle.sheet.specs.declared.Outcome.TheVariants.{Accepted};
-ghost use Rattle.sheet.specs.Sheet.{read_sheet, content_of};
+ghost use Rattle.std.specs.Prelude.{◌≡◌, ℕ, List, ◌<◌, ◌≤◌, length, get_or};
+ghost use Rattle.records.specs.Content.{no_content, no_factor};
+ghost use Rattle.drafts.specs.Draft.{cells, draft_of};
+ghost use Rattle.sheet.specs.Sheet.{content_of};
 
 use drafts::{Draft, DraftPoint};
-use layout::Layout;
-use records::{Factor, Head, Par, Unit, Zone, bodies};
+use record_table::Kind;
+use records::{Circulation, Factor, Head, Par, Path, Unit, Zone, bodies};
+use sheet::AcceptedSheet;
 
-fn no_zones() -> [Zone; drafts::ZONES]
-    ensures { result ≡ cells 33 no_zone [] }
-{
-    let none = Zone {
-        name: [0; 16],
-        load: 0,
-        losses: 0,
-    };
-    [none; drafts::ZONES]
-}
+// What stands where there is no record.
+const NO_HEAD: Head = Head {
+    name: [0; 16],
+    monitoring_rto: 0,
+    seconds: 0,
+    monitoring_price: 0,
+    nonmonitoring_price: 0,
+};
 
-fn no_units() -> [Unit; drafts::UNITS]
-    ensures { result ≡ cells 257 no_unit [] }
-{
-    let none = Unit {
-        name: [0; 16],
-        zone: 0,
-        output: 0,
-    };
-    [none; drafts::UNITS]
-}
+const NO_ZONE: Zone = Zone {
+    name: [0; 16],
+    load: 0,
+    losses: 0,
+};
 
-fn no_points() -> [DraftPoint; drafts::POINTS]
-    ensures { result ≡ cells 33 no_draft_point [] }
-{
-    let none = DraftPoint {
-        name: [0; 16],
-        sort: 0,
-        line: 0,
-        zone: 0,
-        import: 0,
-        export: 0,
-        wheel_in: 0,
-        wheel_out: 0,
-    };
-    [none; drafts::POINTS]
-}
+const NO_UNIT: Unit = Unit {
+    name: [0; 16],
+    zone: 0,
+    output: 0,
+};
 
-fn no_pars() -> [Par; drafts::PARS]
-    ensures { result ≡ cells 9 no_par [] }
-{
-    let none = Par {
-        name: [0; 16],
-        class: 0,
-        actual: 0,
-        target: 0,
-    };
-    [none; drafts::PARS]
-}
+const NO_POINT: DraftPoint = DraftPoint {
+    name: [0; 16],
+    sort: 0,
+    line: 0,
+    zone: 0,
+    import: 0,
+    export: 0,
+    wheel_in: 0,
+    wheel_out: 0,
+};
 
-fn no_factors() -> [Factor; drafts::FACTORS]
-    ensures { result ≡ cells 2889 no_factor [] }
-{
-    let none = Factor {
-        target: 0,
-        subject: 0,
-        index: 0,
-        factor: 0,
-    };
-    [none; drafts::FACTORS]
-}
+const NO_PAR: Par = Par {
+    name: [0; 16],
+    class: 0,
+    actual: 0,
+    target: 0,
+};
 
+const NO_FACTOR: Factor = Factor {
+    target: 0,
+    subject: 0,
+    index: 0,
+    factor: 0,
+};
+
+const NO_PATH: Path = Path {
+    name: [0; 16],
+    flow: 0,
+    factor: 0,
+};
+
+const NO_CIRCULATION: Circulation = Circulation { flow: 0 };
+
+#[tactic(auto, unfolding(drafts::specs::Draft::draft_of))]
 pub fn no_draft() -> Draft
     ensures { result ≡ draft_of no_content }
 {
-    let head = Head {
-        name: [0; 16],
-        monitoring_rto: 0,
-        seconds: 0,
-        monitoring_price: 0,
-        nonmonitoring_price: 0,
-    };
-    let zones = no_zones();
-    let units = no_units();
-    let points = no_points();
-    let pars = no_pars();
-    let factors = no_factors();
-    let paths = lake::no_paths();
-    let circulations = lake::no_circulations();
+    let zones = [NO_ZONE; drafts::ZONES];
+    let units = [NO_UNIT; drafts::UNITS];
+    let points = [NO_POINT; drafts::POINTS];
+    let pars = [NO_PAR; drafts::PARS];
+    let factors = [NO_FACTOR; drafts::FACTORS];
+    let paths = [NO_PATH; drafts::PATHS];
+    let circulations = [NO_CIRCULATION; drafts::CIRCULATIONS];
     Draft {
-        head,
+        head: NO_HEAD,
         zone_count: 0,
         zones,
         unit_count: 0,
@@ -110,90 +94,42 @@ pub fn no_draft() -> Draft
     }
 }
 
-fn zones_of(s: &[u8], l: Layout) -> [Zone; drafts::ZONES]
-    requires { read_sheet s.now ≡ Accepted l }
-    ensures { result ≡ cells 33 no_zone (content_of s.now).zones }
+fn factor_at(sheet: &AcceptedSheet<'_>, i: usize) -> Factor
+    requires { i < sheet.now.layout.factors }
+    ensures { result ≡ get_or (content_of sheet.now.bytes.now).factors i no_factor }
 {
-    let mut zones = no_zones();
-    let mut i = 0;
-    while i < l.zones {
-        zones[i] = sheet_records::zone_at(s, l, i);
-        i += 1;
+    bodies::factor_of(layout::body_at(sheet.bytes, sheet.layout, Kind::Factor, i))
+}
+
+// An array of n records, with `none` behind them.
+fn cells_of<R: Copy, const N: usize, F: Fn(usize) -> R>(none: R, n: usize, read: F) -> [R; N]
+    requires room { n ≤ N }
+    requires callable { (i : ℕ) → i < n → F.pre read i }
+    ensures { (l : List R) → n ≡ length l → ((i : ℕ) (r : R) → i < n → F.post read i r → r ≡ get_or l i none) → result ≡ cells N none l }
+{
+    let mut cells = [none; N];
+    for i in 0..n {
+        cells[i] = read(i);
     }
-    zones
+    cells
 }
 
-fn units_of(s: &[u8], l: Layout) -> [Unit; drafts::UNITS]
-    requires { read_sheet s.now ≡ Accepted l }
-    ensures { result ≡ cells 257 no_unit (content_of s.now).units }
+pub fn draft_of(sheet: &AcceptedSheet<'_>) -> Draft
+    ensures { result ≡ draft_of (content_of sheet.now.bytes.now) }
 {
-    let mut units = no_units();
-    let mut i = 0;
-    while i < l.units {
-        units[i] = sheet_records::unit_at(s, l, i);
-        i += 1;
-    }
-    units
-}
-
-fn points_of(s: &[u8], l: Layout) -> [DraftPoint; drafts::POINTS]
-    requires { read_sheet s.now ≡ Accepted l }
-    ensures { result ≡ cells 33 no_draft_point (map drafted (content_of s.now).points) }
-{
-    let mut points = no_points();
-    let mut i = 0;
-    while i < l.points {
-        points[i] = drafts::draft_point(sheet_records::point_at(s, l, i));
-        i += 1;
-    }
-    points
-}
-
-fn pars_of(s: &[u8], l: Layout) -> [Par; drafts::PARS]
-    requires { read_sheet s.now ≡ Accepted l }
-    ensures { result ≡ cells 9 no_par (content_of s.now).pars }
-{
-    let mut pars = no_pars();
-    let mut i = 0;
-    while i < l.pars {
-        pars[i] = sheet_records::par_at(s, l, i);
-        i += 1;
-    }
-    pars
-}
-
-fn factor_at(s: &[u8], l: Layout, i: usize) -> Factor
-    requires { (read_sheet s.now ≡ Accepted l) × (i < l.factors) }
-    ensures { result ≡ get_or (content_of s.now).factors i no_factor }
-{
-    bodies::factor_of(layout::body_at(s, l, record_table::FACTOR_KIND, i))
-}
-
-fn factors_of(s: &[u8], l: Layout) -> [Factor; drafts::FACTORS]
-    requires { read_sheet s.now ≡ Accepted l }
-    ensures { result ≡ cells 2889 no_factor (content_of s.now).factors }
-{
-    let mut factors = no_factors();
-    let mut i = 0;
-    while i < l.factors {
-        factors[i] = factor_at(s, l, i);
-        i += 1;
-    }
-    factors
-}
-
-pub fn draft_of(s: &[u8], l: Layout) -> Draft
-    requires { read_sheet s.now ≡ Accepted l }
-    ensures { result ≡ draft_of (content_of s.now) }
-{
-    let head = sheet_records::head_at(s, l);
-    let zones = zones_of(s, l);
-    let units = units_of(s, l);
-    let points = points_of(s, l);
-    let pars = pars_of(s, l);
-    let factors = factors_of(s, l);
-    let paths = lake::paths_of(s, l);
-    let circulations = lake::circulations_of(s, l);
+    let l = sheet.layout;
+    let head = sheet_records::head_at(sheet);
+    let zones = cells_of(NO_ZONE, l.zones, |i| sheet_records::zone_at(sheet, i));
+    let units = cells_of(NO_UNIT, l.units, |i| sheet_records::unit_at(sheet, i));
+    let points = cells_of(NO_POINT, l.points, |i| {
+        DraftPoint::from(sheet_records::point_at(sheet, i))
+    });
+    let pars = cells_of(NO_PAR, l.pars, |i| sheet_records::par_at(sheet, i));
+    let factors = cells_of(NO_FACTOR, l.factors, |i| factor_at(sheet, i));
+    let paths = cells_of(NO_PATH, l.paths, |i| sheet_records::path_at(sheet, i));
+    let circulations = cells_of(NO_CIRCULATION, l.circulations, |_| {
+        sheet_records::circulation_at(sheet)
+    });
     Draft {
         head,
         zone_count: l.zones,

@@ -10,7 +10,7 @@ use Rattle.rows.specs.Rows.{row}
 use Rattle.fields.proofs.Bytes.{Bytes}
 use Rattle.records.specs.Content.{Content}
 use Rattle.layout.specs.declared.Layout.{Layout}
-use Rattle.sheet.specs.declared.Outcome.TheVariants.{Accepted}
+use Rattle.sheet.specs.Sheet.{Accepted}
 use Rattle.sheet.specs.Sheet.{read_sheet, content_of}
 use Rattle.writers.specs.Written.{written}
 use Rattle.sheet_bytes.specs.SheetBytes.{sheet_bytes}

@@ -1,8 +1,7 @@
 #![tactic(auto)]
 // The writer of sheets (document 02, requests 3 and 6): a draft as a sheet, or rows 5 to 13, 28, or 27.
-ghost use Rattle.std.specs.Prelude.{◌≡◌, ◌≤◌, length};
-ghost use Rattle.layout.specs.Layout.{layout_of};
-ghost use Rattle.layout.specs.inner.Places.{extent};
+ghost use Rattle.std.specs.Prelude.{◌≡◌, ◌≤◌, length, take};
+ghost use Rattle.rows.specs.Refusals.{row_of};
 ghost use Rattle.sheet.specs.Sheet.{reading, number_in};
 ghost use Rattle.writers.specs.inner.Wrote.{Wrote};
 ghost use Rattle.sheet_bytes.specs.SheetBytes.{sheet_bytes};
@@ -10,12 +9,11 @@ ghost use Rattle.sheet_bytes.specs.inner.Marked.{marked};
 ghost use Rattle.sheet_bytes.specs.inner.Returns.{Returned};
 ghost use Rattle.drafts.specs.Draft.{given};
 ghost use Rattle.sheet_writer.specs.Promise.{Promise};
-ghost use Rattle.sheet_writer.specs.inner.Given.{at_most};
+ghost use Rattle.sheet_writer.specs.inner.Given.{most_given};
 
 use drafts::Draft;
-use flow_sections::put_flows;
-use grid_sections::put_grid;
-use lake_sections::put_lake;
+use rows::Refusal;
+use section_writers::{put_flows, put_grid, put_lake};
 
 // How many bytes all records of a draft have at most, surplus ones included.
 const ROOM: usize = record_table::HEAD_BODY
@@ -28,7 +26,7 @@ const ROOM: usize = record_table::HEAD_BODY
     + (record_table::PATH_BODY + 1) * drafts::PATHS
     + (record_table::CIRCULATION_BODY + 1) * drafts::CIRCULATIONS;
 
-// 0 and the sheet's length, or a refusal's number and 0.
+// For the C interface: 0 and the sheet's length, or a refusal's number and 0.
 #[repr(C)]
 #[derive(Clone, Copy)]
 pub struct Written {
@@ -36,71 +34,65 @@ pub struct Written {
     pub length: usize,
 }
 
-fn at_most(n: usize, most: usize) -> usize
-    ensures { result ≡ at_most n most }
+// The first n of some records, and at most all.
+fn first<R, const N: usize>(records: &[R; N], n: usize) -> &[R]
+    ensures value { result.now ≡ take n records.now }
+    ensures within { length result.now ≤ N }
 {
-    if n < most { n } else { most }
+    &records[..n.min(N)]
 }
 
 // All records that are given.
-fn put_sheet(d: Draft, out: &mut [u8]) -> usize
-    requires { extent (layout_of (given d)) ≤ length out.old }
-    ensures wrote { Wrote (sheet_bytes (marked (given d))) out.old out.new result }
-    ensures value { result ≡ extent (layout_of (given d)) }
-    ensures returned { Returned (marked (given d)) }
+fn put_sheet(d: &Draft, out: &mut [u8]) -> usize
+    requires { most_given ≤ length out.old }
+    ensures wrote { Wrote (sheet_bytes (marked (given d.now))) out.old out.new result }
+    ensures returned { Returned (marked (given d.now)) }
+    ensures few { length (given d.now).zones ≤ 33 }
 {
-    let head = d.head;
-    let zones = d.zones;
-    let units = d.units;
-    let points = d.points;
-    let pars = d.pars;
-    let factors = d.factors;
-    let paths = d.paths;
-    let circulations = d.circulations;
-    let z = at_most(d.zone_count, drafts::ZONES);
-    let u = at_most(d.unit_count, drafts::UNITS);
-    let p = at_most(d.point_count, drafts::POINTS);
-    let a = at_most(d.par_count, drafts::PARS);
-    let f = at_most(d.factor_count, drafts::FACTORS);
-    let q = at_most(d.path_count, drafts::PATHS);
-    let k = at_most(d.circulation_count, drafts::CIRCULATIONS);
-    let mut n = put_grid(head, zones, z, units, u, out);
-    n += put_flows(points, p, pars, a, factors, f, &mut out[n..]);
-    n += put_lake(paths, q, circulations, k, &mut out[n..]);
+    let zones = first(&d.zones, d.zone_count);
+    let units = first(&d.units, d.unit_count);
+    let points = first(&d.points, d.point_count);
+    let pars = first(&d.pars, d.par_count);
+    let factors = first(&d.factors, d.factor_count);
+    let paths = first(&d.paths, d.path_count);
+    let circulations = first(&d.circulations, d.circulation_count);
+    let mut n = put_grid(d.head, zones, units, out);
+    n += put_flows(points, pars, factors, &mut out[n..]);
+    n += put_lake(paths, circulations, &mut out[n..]);
     n
 }
 
-// The number that the reader gives a sheet, or 0.
-fn number_of(s: &[u8]) -> u8
-    ensures { result ≡ number_in (reading s.now) }
+// Whether the reader accepts a sheet.
+fn checked(s: &[u8]) -> Result<(), Refusal>
+    ensures { row_of result ≡ number_in (reading s.now) }
 {
     match sheet::read(s) {
-        sheet::Outcome::Refused(number, _) => number,
-        sheet::Outcome::Accepted(l) => 0,
+        Err(refused) => Err(refused.refusal),
+        Ok(_) => Ok(()),
     }
 }
 
-// The records are written to an array first and read there: nothing is stored in the output buffer before they have passed.
+// The records are written to an array and read there first: nothing is stored in the buffer before they have passed.
 pub fn write_draft(d: Draft, out: &mut [u8]) -> Written
     ensures { Promise (given d) out.old out.new result }
 {
     let mut bytes = [0u8; ROOM];
-    let n = put_sheet(d, &mut bytes);
-    let number = number_of(&bytes[..n]);
-    if number != 0 {
+    let n = put_sheet(&d, &mut bytes);
+    let sheet = &bytes[..n];
+    if let Err(refusal) = checked(sheet) {
         return Written {
-            refusal: number,
+            refusal: refusal.number(),
             length: 0,
         };
     }
-    if out.len() < n {
+    if out.len() < sheet.len() {
         return Written {
-            refusal: 27,
+            refusal: Refusal::BufferTooShort.number(),
             length: 0,
         };
     }
     Written {
         refusal: 0,
-        length: put_sheet(d, out),
+        length: writers::put(sheet, out),
     }
 }

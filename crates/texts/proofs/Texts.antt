@@ -1,16 +1,21 @@
 -- Laws of texts one behind the other.
-use mathlib.Core.Path.{◌≡◌, refl, ap, sym, ◌∙◌}
+use mathlib.Core.Path.{◌≡◌, refl, ap, sym}
 use mathlib.Core.Bool.{Bool, true, not, ◌&&◌}
 use mathlib.Core.List.{List, [], ◌∷◌, ◌++◌}
-use Prim.Native.Nat.{ℕ, zero, suc, ◌+◌, ◌-◌, ◌≤◌}
+use Prim.Native.Nat.{ℕ, zero, suc, ◌+◌, ◌<◌}
+use native.Mathlib.Decide.{dec_lt}
 use native.Mathlib.Omega.{arith}
-use borrow.Author.Tests.{eqb-false, not-true, ne_eqb}
+use borrow.Author.Tests.{eq-eqb, eqb-false, not-true, ne_eqb}
 use lib.Dec.{eqb}
-use lib.ListN.{length, get_or, take, drop, length-drop, drop_of_length-le}
-use lib.Seq.{take_all, length-take-le, drop-drop, drop_at}
+use lib.ListN.{length, get_or}
+use lib.Seq.{drop-drop, drop_at}
 use Rattle.rows.proofs.NotMet.{both}
 use Rattle.writers.specs.Text.{unfilled}
-use Rattle.writers.proofs.Names.{unfilled_front}
+use denote.Ref.{Bor}
+use Rattle.std.proofs.Common.{Option, Some, None}
+use Rattle.std.proofs.lemmas.List.Splits.{length-slice_split}
+use Rattle.std.specs.List.{onto_first, slice_get, slice_split}
+use Rattle.std.specs.Option.{option_map, unwrap_or}
 use Rattle.texts.specs.inner.Texts.{packed, texts_from, text_of}
 
 texts_none : (n : ℕ) → texts_from n [] ≡ []
@@ -18,28 +23,40 @@ unfolding texts_from unfilled
 texts_none zero = refl
 texts_none (suc n) = texts_none n
 
--- where a text begins: the first, at the end where no text follows, and behind another, `&texts[next..]`
-pub start_first : (n : ℕ) (bs : List ℕ) → n ≡ 0 → drop 0 bs ≡ texts_from n bs
-unfolding texts_from
-start_first n bs z = rw z refl
+-- the text of a number is the piece of that number, cut at the zero bytes
+abbrev pub zero_byte : ℕ → Bool
+zero_byte b = eqb b 0
 
-pub start_none : (n first : ℕ) (bs : List ℕ) → (n ≡ 0 → ⊥) → first ≡ length (unfilled bs) → length bs ≤ first → drop first bs ≡ texts_from n bs
-unfolding texts_from
-start_none zero first bs z e h = absurd (z refl)
-start_none (suc n) first bs z e h = rw (drop_of_length-le bs {i = first} h, drop_of_length-le bs {i = length (unfilled bs) + 1} (omega arith)) (sym (texts_none n))
+front_first : (b : ℕ) (ps : List (List ℕ)) → 0 < length ps → unwrap_or (slice_get (onto_first b ps) 0) [] ≡ b ∷ unwrap_or (slice_get ps 0) []
+front_first b [] h = absurd (omega arith)
+front_first b (p ∷ ps) h = refl
 
-pub start_next : (n first next r : ℕ) (bs : List ℕ) → (n ≡ 0 → ⊥) → first ≡ length (unfilled bs) → next ≡ first + 1 →
-    drop r (take (length bs - next) (drop next bs)) ≡ texts_from (n - 1) (take (length bs - next) (drop next bs)) → drop (next + r) bs ≡ texts_from n bs
-unfolding texts_from
-start_next zero first next r bs z e f h = absurd (z refl)
-start_next (suc n) first next r bs z e f h =
-    let m : suc n - 1 ≡ n = omega arith in
-    let a : take (length bs - next) (drop next bs) ≡ drop next bs = take_all (length bs - next) (drop next bs) (omega (arith, length-drop next bs)) in
-    let k : length (unfilled bs) + 1 ≡ next = omega arith in
-    rw k (sym (drop-drop r next bs) ∙ rw (m, a) at h)
+front_next : (b n : ℕ) (ps : List (List ℕ)) → 0 < length ps → slice_get (onto_first b ps) (suc n) ≡ slice_get ps (suc n)
+front_next b n [] h = absurd (omega arith)
+front_next b n (p ∷ ps) h = refl
 
-pub start_within : (next r : ℕ) (bs : List ℕ) → next ≤ length bs → r ≤ length (take (length bs - next) (drop next bs)) → next + r ≤ length bs
-start_within next r bs h g = omega (arith, length-drop next bs, length-take-le (length bs - next) (drop next bs) (omega (arith, length-drop next bs)))
+pieces : (bs : List ℕ) → 0 < length (slice_split zero_byte bs)
+pieces bs = omega (arith, length-slice_split zero_byte bs)
+
+pub piece_is : (bs : List ℕ) (n : ℕ) → unwrap_or (slice_get (slice_split zero_byte bs) n) [] ≡ text_of n bs
+unfolding texts_from unfilled
+piece_is [] zero = refl
+piece_is [] (suc n) = rw (texts_none n) refl
+piece_is (b ∷ bs) zero =
+    elim (dec_lt b 1) [
+      | yes ends ↦ rw (eq-eqb b 0 (omega arith)) refl
+      | no goes_on ↦ rw (ne_eqb b 0 (λ e. omega arith), front_first b _ (pieces bs)) (ap (λ (r : List ℕ). b ∷ r) (piece_is bs 0))
+    ]
+piece_is (b ∷ bs) (suc n) =
+    elim (dec_lt b 1) [
+      | yes ends ↦ rw (eq-eqb b 0 (omega arith)) (piece_is bs n)
+      | no goes_on ↦ let m : suc (length (unfilled bs)) + 1 ≡ suc (length (unfilled bs) + 1) = omega arith in rw (ne_eqb b 0 (λ e. omega arith), front_next b n _ (pieces bs), m) (piece_is bs (suc n))
+    ]
+
+-- what a piece or nothing points to
+pub pointed : (r : Option (Bor (List ℕ))) (d : Bor (List ℕ)) → (unwrap_or r d).now ≡ unwrap_or (option_map (λ x. x.now) r) d.now
+pointed None d = refl
+pointed (Some x) d = refl
 
 -- a text without zero bytes is whole before its end
 abbrev pub plain : List ℕ → Bool
@@ -66,11 +83,3 @@ text_is (t ∷ ts) p (suc n) =
     let x = both (plain t) (all_plain ts) p in
     let u = unfilled_plain t (packed ts) x.0 in
     rw (u, sym (drop-drop 1 (length t) (t ++ (0 ∷ packed ts))), drop_at t (0 ∷ packed ts) (length t) refl) (text_is ts x.1 n)
-
--- what stands there up to its end
-pub text_here : (n from to used : ℕ) (bs : List ℕ) → drop from bs ≡ texts_from n bs → used ≡ length (unfilled (take (length bs - from) (drop from bs))) → to ≡ from + used →
-    take (to - from) (drop from bs) ≡ text_of n bs
-text_here n from to used bs e u t =
-    let a : take (length bs - from) (drop from bs) ≡ drop from bs = take_all (length bs - from) (drop from bs) (omega (arith, length-drop from bs)) in
-    let m : to - from ≡ length (unfilled (drop from bs)) = omega (arith, rw a at u) in
-    rw m (unfilled_front (drop from bs) ∙ ap unfilled e)

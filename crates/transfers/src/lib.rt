@@ -1,88 +1,92 @@
 #![tactic(auto)]
 // Bytes read and written whole: all bytes, or a failure.
-ghost use Rattle.std.specs.Prelude.{ℕ, ◌≤◌, ◌-◌, ◌≡◌, length, List, Option};
-ghost use Rattle.transfers.specs.Transfer.{after as Transfer·after, Received, Delivered, ReadWhole, WroteOn, WroteWhole};
-ghost use Rattle.transfers.specs.inner.Steps.{failed, Moves, NoInterruption, Answered, Leads, NotInterrupted, Gives, Takes, NoneMoved, ReadOn, ReadLeads, WriteLeads};
-ghost use Rattle.transfers.specs.declared.Outcome.TheVariants.{Whole, Failed};
+ghost use Rattle.std.specs.Prelude.{ℕ, ◌≤◌, ◌-◌, ◌≡◌, length, List, Option, Ok, IfErr};
+ghost use Rattle.std.specs.IoError.{raw_os_error, error_kind};
+ghost use Rattle.std.specs.Io.{ReadsAtMost, WritesAtMost};
+ghost use Rattle.std.specs.Io.KnownBytes.{ReadConsumes, WriteAppends};
+ghost use Rattle.transfers.specs.Transfer.{failed_by, after as Transfer·after, Received, Delivered, ReadWhole, WroteOn, WroteWhole};
+ghost use Rattle.transfers.specs.inner.Steps.{failed, failed_of, Numbered, Moves, NoInterruption, Answered, Leads, ReadOn, ReadLeads, WriteLeads};
 
 use std::io;
 use std::io::{ErrorKind, Read, Write};
+use std::ops::ControlFlow;
+use std::ops::ControlFlow::{Break, Continue};
 
 // The system's numbers of errors.
 const EINTR: u32 = 4;
 
 const EIO: u32 = 5;
 
-// What one call of read or write came to: so many bytes moved, a signal came before any did, or it failed with errno.
+// The system's number of an error.
 #[derive(Clone, Copy)]
-pub enum Answer {
-    Moved(usize),
-    Interrupted,
-    Error(u32),
+pub struct Errno {
+    pub number: u32,
 }
 
-// What a transfer came to: so many bytes, and these are all, or none that count, with errno.
-#[derive(Clone, Copy)]
-pub enum Outcome {
-    Whole(usize),
-    Failed(u32),
+impl From<Errno> for io::Error {
+    ghost from_gives = { Numbered };
+
+    fn from(error: Errno) -> io::Error {
+        io::Error::from_raw_os_error(error.number.cast_signed())
+    }
 }
+
+// Why one call of read or write moved no byte: a signal came before any did, or it failed.
+#[derive(Clone, Copy)]
+pub enum CallError {
+    Interrupted,
+    Failed(Errno),
+}
+
+// An error that is not the system's has no errno of its own, and counts as EIO.
+impl From<io::Error> for CallError {
+    ghost from_gives = { λ error call. (call ≡ failed_of (raw_os_error error) (error_kind error)) × NoInterruption call };
+
+    fn from(error: io::Error) -> CallError {
+        match error.raw_os_error() {
+            Some(errno) => failure(errno),
+            None if error.kind() == ErrorKind::Interrupted => CallError::Interrupted,
+            None => CallError::Failed(Errno { number: EIO }),
+        }
+    }
+}
+
+// What one call came to: so many bytes moved, or why none did.
+pub type Answer = Result<usize, CallError>;
+
+// What a transfer came to: so many bytes, and these are all, or none that count.
+pub type Outcome = Result<usize, Errno>;
 
 // What comes after a call: another, with so many bytes moved, or the outcome.
-#[derive(Clone, Copy)]
-pub enum Step {
-    Onward(usize),
-    Over(Outcome),
-}
+pub type Step = ControlFlow<Outcome, usize>;
 
 // What a call that failed came to, by errno.
-pub fn failure(errno: i32) -> Answer
+pub fn failure(errno: i32) -> CallError
     ensures value { result ≡ failed errno }
-    ensures by_index { (handed : ℕ) → Moves handed result }
     ensures number { NoInterruption result }
 {
-    if errno < 0 {
-        return Answer::Error(0);
-    }
-    let error = errno as u32;
-    if error == EINTR {
-        return Answer::Interrupted;
-    }
-    Answer::Error(error)
-}
-
-// What a call that failed came to. An error that is not the system's has no errno of its own, and counts as EIO.
-fn refusal(error: &io::Error) -> Answer
-    ensures none { NoneMoved result }
-    ensures moves { (handed : ℕ) → Moves handed result }
-    ensures number { NoInterruption result }
-{
-    match error.raw_os_error() {
-        Some(errno) => failure(errno),
-        None if error.kind() == ErrorKind::Interrupted => Answer::Interrupted,
-        None => Answer::Error(EIO),
+    match u32::try_from(errno) {
+        Ok(EINTR) => CallError::Interrupted,
+        Ok(number) => CallError::Failed(Errno { number }),
+        Err(_) => CallError::Failed(Errno { number: 0 }),
     }
 }
 
+// Here and in the steps reading and writing stay apart: little is there but the promise of the bytes, and that differs.
 fn read_some<R: Read>(reader: &mut R, part: &mut [u8]) -> Answer
-    ensures moves { Moves (length part.old) result }
-    ensures gives { Gives (R.remaining reader.old) (R.remaining reader.new) part.new result }
+    ensures moves { ReadsAtMost result part.new }
+    ensures number { IfErr result NoInterruption }
+    ensures gives { ReadConsumes (R.remaining reader.old) (R.remaining reader.new) result part.new }
 {
-    match reader.read(part) {
-        Ok(n) => Answer::Moved(n),
-        Err(error) => refusal(&error),
-    }
+    Ok(reader.read(part)?)
 }
 
 fn write_some<W: Write>(writer: &mut W, part: &[u8]) -> Answer
-    ensures moves { Moves (length part.now) result }
-    ensures number { NoInterruption result }
-    ensures takes { Takes (W.contents writer.old) (W.contents writer.new) part.now result }
+    ensures moves { WritesAtMost result part.now }
+    ensures number { IfErr result NoInterruption }
+    ensures takes { WriteAppends (W.contents writer.old) (W.contents writer.new) result part.now }
 {
-    match writer.write(part) {
-        Ok(n) => Answer::Moved(n),
-        Err(error) => refusal(&error),
-    }
+    Ok(writer.write(part)?)
 }
 
 // After a call that was handed the bytes behind the first `done` of `room`. One that moves none of them brings the outcome
@@ -93,46 +97,43 @@ fn after(answer: Answer, done: usize, room: usize, none: Outcome) -> Step
     ensures { result ≡ Transfer·after answer done room none }
 {
     match answer {
-        Answer::Moved(n) => {
-            if n >= room - done {
-                return Step::Over(Outcome::Whole(room));
-            }
-            if n == 0 {
-                return Step::Over(none);
-            }
-            Step::Onward(done + n)
-        }
-        Answer::Interrupted => Step::Onward(done),
-        Answer::Error(error) => Step::Over(Outcome::Failed(error)),
+        Ok(n) if n >= room - done => Break(Ok(room)),
+        Ok(0) => Break(none),
+        Ok(n) => Continue(done + n),
+        Err(CallError::Interrupted) => Continue(done),
+        Err(CallError::Failed(error)) => Break(Err(error)),
     }
 }
 
+#[tactic(auto, using(crate::proofs::Bytes::reads, crate::proofs::Steps::of_part))]
 fn read_step<R: Read>(reader: &mut R, buf: &mut [u8], done: usize) -> Step
     requires { done ≤ length buf.old }
-    ensures answered { Answered Whole done (length buf.old) result }
+    ensures answered { Answered Ok done (length buf.old) result }
     ensures leads { Leads (length buf.old) result }
     ensures bytes { (first : Option (List ℕ)) → ReadOn first (R.remaining reader.old) buf.old done
         → ReadLeads first (R.remaining reader.new) buf.new result }
 {
     let room = buf.len();
     let answer = read_some(reader, &mut buf[done..]);
-    after(answer, done, room, Outcome::Whole(done))
+    after(answer, done, room, Ok(done))
 }
 
+#[tactic(auto, using(crate::proofs::Bytes::writes, std::proofs::lemmas::List::take_rest))]
 fn write_step<W: Write>(writer: &mut W, bytes: &[u8], done: usize) -> Step
     requires { done ≤ length bytes.now }
-    ensures answered { Answered (λ (n : ℕ). Failed 5) done (length bytes.now) result }
+    ensures answered { Answered (λ (n : ℕ). failed_by 5) done (length bytes.now) result }
     ensures leads { Leads (length bytes.now) result }
-    ensures number { NotInterrupted result }
     ensures bytes { (first : Option (List ℕ)) → WroteOn first (W.contents writer.old) bytes.now done
         → WriteLeads first (W.contents writer.new) bytes.now result }
 {
     let answer = write_some(writer, &bytes[done..]);
-    after(answer, done, bytes.len(), Outcome::Failed(EIO))
+    after(answer, done, bytes.len(), Err(Errno { number: EIO }))
 }
 
 // Reads until the buffer is full or the input ends: all bytes, or none where a call fails. A call that a signal interrupts
 // is made again. A proved loop has to end, so the calls are counted, up to a number that no run uses up.
+// The loop stands here and in `write_all`: one for both needs a trait with its laws, and is longer than the two.
+#[tactic(auto, using(crate::proofs::Steps::onward))]
 pub fn read_all<R: Read>(reader: &mut R, buf: &mut [u8]) -> Outcome
     ensures received { Received (length buf.old) result }
     ensures bytes { ReadWhole (R.remaining reader.old) (R.remaining reader.new) buf.new result }
@@ -140,14 +141,15 @@ pub fn read_all<R: Read>(reader: &mut R, buf: &mut [u8]) -> Outcome
     let mut done = 0;
     for _ in 0..u64::MAX {
         match read_step(reader, buf, done) {
-            Step::Onward(n) => done = n,
-            Step::Over(outcome) => return outcome,
+            Continue(n) => done = n,
+            Break(outcome) => return outcome,
         }
     }
-    Outcome::Failed(EINTR)
+    Err(Errno { number: EINTR })
 }
 
 // Writes all bytes, or fails. A call that moves none of the bytes left is an error, EIO. The rest as in `read_all`.
+#[tactic(auto, using(crate::proofs::Steps::onward))]
 pub fn write_all<W: Write>(writer: &mut W, bytes: &[u8]) -> Outcome
     ensures delivered { Delivered (length bytes.now) result }
     ensures bytes { WroteWhole (W.contents writer.old) (W.contents writer.new) bytes.now result }
@@ -155,9 +157,9 @@ pub fn write_all<W: Write>(writer: &mut W, bytes: &[u8]) -> Outcome
     let mut done = 0;
     for _ in 0..u64::MAX {
         match write_step(writer, bytes, done) {
-            Step::Onward(n) => done = n,
-            Step::Over(outcome) => return outcome,
+            Continue(n) => done = n,
+            Break(outcome) => return outcome,
         }
     }
-    Outcome::Failed(EINTR)
+    Err(Errno { number: EINTR })
 }

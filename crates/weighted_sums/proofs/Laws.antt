@@ -1,37 +1,38 @@
 -- The weighted sums are the figures of steps 3 to 5; how large a term can be.
 use Prim.Native.Nat.{ℕ, ◌+◌, ◌≤◌, ◌<◌}
-use native.Mathlib.Nat.{le_refl, le_trans}
+use native.Mathlib.Nat.{le_refl}
 use native.Mathlib.Omega.{arith}
-use mathlib.Core.Path.{◌≡◌, refl}
+use mathlib.Core.Path.{◌≡◌, refl, ap, ◌∙◌}
 use mathlib.Core.Bool.{Bool, true, false, cond}
 use mathlib.Core.List.{List}
-use borrow.Author.Tests.{ne_eqb}
 use lib.Dec.{eqb, lit<, lit≤}
 use lib.IntN.{ℤ, pos, nat_abs, ◌-ℤ◌, ◌*ℤ◌}
 use lib.ListN.{length, get_or}
+use mir.Val.{to_z}
+use mir.Syntax.{w64}
 use Rattle.integers.proofs.Linear.{zarith}
 use Rattle.integers.proofs.Tactic.{zi, zo}
 use Rattle.integers.proofs.Absolute.{abs_sub}
 use Rattle.integers.proofs.Sums.{sum_same}
-use Rattle.integers.proofs.Machine.{Num, Op, rd, num_is, mul}
+use Rattle.integers.proofs.Machine.{Num, Op, rd, num, num_is, num_u, mul}
 use Rattle.due_factors.specs.Due.{Asked, how_many}
 use Rattle.layout.specs.declared.Layout.{Layout}
+use Rattle.records.specs.declared.Unit.{Unit}
 use Rattle.records.specs.declared.Point.{Point}
 use Rattle.records.specs.declared.Par.{Par}
 use Rattle.records.specs.Codes.{unit_subject, zone_subject, point_subject, par_subject}
-use Rattle.records.specs.Content.{Content, point, par, factor_for}
-use Rattle.record_rows.specs.inner.Valid.{PointFits, ParFits, Valid}
-use Rattle.sheet.specs.declared.Outcome.TheVariants.{Accepted}
-use Rattle.sheet.specs.Sheet.{read_sheet, content_of}
+use Rattle.records.specs.Content.{Content, unit, point, par, factor_for}
+use Rattle.record_rows.specs.inner.Valid.{ParFits, Valid}
+use Rattle.sheet.specs.Sheet.{read_sheet, content_of, Accepted}
 use Rattle.sheet.proofs.Accepted.{valid, counts}
 use Rattle.figures.specs.Balance.{zone_load, output}
 use Rattle.figures.specs.Flow.{factor, par_factor, output_term, weighted_output, load_term, net_schedule, schedule_term, schedule_flow, control_term, control}
-use Rattle.figures.proofs.Factors.{zone-factor-within}
 use Rattle.figures.proofs.Numbers.{cond_within, times_within}
 use Rattle.figures.proofs.Ranges.{output_within, zone_load_within, net_within}
+use Rattle.zone_sums.specs.ByZone.{zone_loads}
 use Rattle.zone_sums.specs.inner.Ledger.{figure_at}
 use Rattle.zone_sums.proofs.Cells.{cell_at}
-use Rattle.weighted_sums.specs.inner.Weighted.{Lent, OnTarget, tenfold_in, power_of, weighted_term, members, weighted_sum}
+use Rattle.weighted_sums.specs.inner.Weighted.{tenfold_in, power_of, weighted_term, members, weighted_sum}
 
 -- the class is asked before or after the factor
 tenfold_times : (b : Bool) (x f : ℤ) → cond b (x *ℤ pos 10) (pos 0) *ℤ f ≡ cond b (x *ℤ f *ℤ pos 10) (pos 0)
@@ -71,73 +72,94 @@ module _ {x z : ℤ} (e : x ≡ z) (h : nat_abs z ≤ 400000) where
   pub tenfold_is : (of class : ℕ) → tenfold_in of class (rd x) ≡ tenfold_in of class z
   tenfold_is of class = rw as_read.is
 
-power_within : {c : Content} → Valid c → (subject class i : ℕ) → (subject ≡ 2 → ⊥) → i < members c subject → nat_abs (power_of c subject class i) ≤ 4000000
-unfolding members how_many power_of
-power_within {c} v subject class i o = by (eqb subject 1) (eqb subject 3)
-  where
-    by : (p r : Bool) → i < cond p (length c.units) (cond (eqb subject 2) (length c.zones) (cond r (length c.points) (length c.pars))) →
-        nat_abs (cond p (output c i) (cond r (tenfold_in (point c i).sort class (net_schedule (point c i))) (tenfold_in (par c i).class class ((par c i).actual -ℤ (par c i).target)))) ≤ 4000000
-    by true r l = le_trans (output_within v i l) (lit≤ tt)
-    by false true l = tenfold_within (point c i).sort class (net_schedule (point c i)) (net_within (v.point_fits i (rw (ne_eqb subject 2 o) at l)))
-    by false false l = tenfold_within (par c i).class class ((par c i).actual -ℤ (par c i).target) (over_within (v.par_fits i (rw (ne_eqb subject 2 o) at l)))
+module _ {c : Content} (v : Valid c) (class i : ℕ) where
+  pub point_power_within : i < length c.points → nat_abs (tenfold_in (point c i).sort class (net_schedule (point c i))) ≤ 4000000
+  point_power_within l = tenfold_within (point c i).sort class (net_schedule (point c i)) (net_within (v.point_fits i l))
+
+  pub par_power_within : i < length c.pars → nat_abs (tenfold_in (par c i).class class ((par c i).actual -ℤ (par c i).target)) ≤ 4000000
+  par_power_within l = tenfold_within (par c i).class class ((par c i).actual -ℤ (par c i).target) (over_within (v.par_fits i l))
 
 -- what the layout of an accepted sheet counts is what its content has
 module _ (s : List ℕ) (l : Layout) (e : read_sheet s ≡ Accepted l) where
-  pub members_are : (subject : ℕ) → how_many l.zones l.units l.points l.pars subject ≡ members (content_of s) subject
-  unfolding members
-  members_are subject = rw ((counts s l e).zones, (counts s l e).units, (counts s l e).points, (counts s l e).pars)
-
-  pub members_most : (subject : ℕ) → members (content_of s) subject ≤ 256
-  unfolding members how_many
-  members_most subject = by (eqb subject 1) (eqb subject 2) (eqb subject 3)
-    where
-      v : Valid (content_of s)
-      v = valid s l e
-
-      by : (p q r : Bool) → cond p (length (content_of s).units) (cond q (length (content_of s).zones) (cond r (length (content_of s).points) (length (content_of s).pars))) ≤ 256
-      by true q r = v.units_most
-      by false true r = omega (arith, v.zones_most)
-      by false false true = omega (arith, v.points_most)
-      by false false false = omega (arith, v.pars_most)
-
-  pub asked : {target subject : ℕ} → OnTarget l.pars target subject → (i : ℕ) → i < how_many l.zones l.units l.points l.pars subject →
-      Asked l.zones l.units l.points l.pars target subject i
-  asked o i h = record { known = o.known; low = o.low; high = o.high; par = o.par; index = h }
-
-  module _ (subject class target i : ℕ) (o : subject ≡ zone_subject → ⊥) (a : Asked l.zones l.units l.points l.pars target subject i) where
-    factor-within : nat_abs (factor_for (content_of s).factors target subject (i + 1)) ≤ 10000
-    factor-within = (valid s l e).factor_fits target subject i (rw ((counts s l e).zones, (counts s l e).units, (counts s l e).points, (counts s l e).pars) at a)
-
-    -- p is the power, f the factor, as the calls returned them
-    pub term : (p f : ℤ) → p ≡ power_of (content_of s) subject class i → f ≡ factor_for (content_of s).factors target subject (i + 1) →
-        Op (rd p *ℤ rd f) (weighted_term (content_of s) subject class target i) 40000000000
-    unfolding weighted_term factor
-    term p f ep ef =
-        mul (num_is p _ 4000000 ep (power_within (valid s l e) subject class i o (rw (members_are subject) at a.index)) (lit< tt))
-        (num_is f _ 10000 ef factor-within (lit< tt)) (lit< tt)
-
-    pub term-within : nat_abs (weighted_term (content_of s) subject class target i) ≤ 40000000000
-    term-within = (term _ _ refl refl).num.abs
-
--- a zone's term, from its load as it is read and its factor, f, as the call returned it
-module _ {s : List ℕ} {l : Layout} {array : List ℤ} (g : Lent s l array) (target z : ℕ) (k : target ≤ l.pars) (h : z < l.zones) where
-  in_content : z < length (content_of s).zones
-  in_content = omega (arith, (counts s l g.accepted).zones)
-
-  pub zone_asked : Asked l.zones l.units l.points l.pars target zone_subject z
+  pub unit_asked : {target : ℕ} → target ≤ l.pars → (i : ℕ) → i < l.units → Asked l.zones l.units l.points l.pars target unit_subject i
   unfolding how_many
-  zone_asked = record { known = k; low = lit≤ tt; high = lit≤ tt; par = λ e. absurd (omega (arith, e)); index = h }
+  unit_asked k i h = record { known = k; low = lit≤ tt; high = lit≤ tt; par = λ p. absurd (omega (arith, p)); index = h }
 
-  load_read : get_or array z (pos 0) ≡ zone_load (content_of s) z
+  pub zone_asked : {target : ℕ} → target ≤ l.pars → (i : ℕ) → i < l.zones → Asked l.zones l.units l.points l.pars target zone_subject i
+  unfolding how_many
+  zone_asked k i h = record { known = k; low = lit≤ tt; high = lit≤ tt; par = λ p. absurd (omega (arith, p)); index = h }
+
+  pub point_asked : {target : ℕ} → target ≤ l.pars → (i : ℕ) → i < l.points → Asked l.zones l.units l.points l.pars target point_subject i
+  unfolding how_many
+  point_asked k i h = record { known = k; low = lit≤ tt; high = lit≤ tt; par = λ p. absurd (omega (arith, p)); index = h }
+
+  pub par_asked : (i : ℕ) → i < l.pars → Asked l.zones l.units l.points l.pars 0 par_subject i
+  unfolding how_many
+  par_asked i h = record { known = omega arith; low = lit≤ tt; high = lit≤ tt; par = λ p. refl; index = h }
+
+  -- a power, and the factor as the call returned it
+  pub weighed : {target subject i : ℕ} → Asked l.zones l.units l.points l.pars target subject i → (power f : ℤ) → nat_abs power ≤ 10400000 →
+      f ≡ factor_for (content_of s).factors target subject (i + 1) → Op (rd power *ℤ rd f) (power *ℤ factor (content_of s) target subject i) 104000000000
+  unfolding factor
+  weighed {target} {subject} {i} a power f h ef =
+      mul (num power 10400000 h (lit< tt))
+      (num_is f _ 10000 ef ((valid s l e).factor_fits target subject i (rw ((counts s l e).zones, (counts s l e).units, (counts s l e).points, (counts s l e).pars) at a)) (lit< tt)) (lit< tt)
+
+  -- a unit's output as it is read
+  pub output_read : (i : ℕ) → i < l.units → (u : Unit) → u ≡ unit (content_of s) i → Num (to_z w64 u.output) (output (content_of s) i) 2000000
+  unfolding output
+  output_read i h u g = rw g (num_u _ 2000000 ((valid s l e).unit_fits i (rw (counts s l e).units at h)).output (lit< tt))
+
+  pub output_term_within : {target i : ℕ} → target ≤ l.pars → i < l.units → nat_abs (weighted_term (content_of s) unit_subject 0 target i) ≤ 104000000000
+  unfolding weighted_term power_of
+  output_term_within {i = i} k h = (weighed (unit_asked k i h) (output (content_of s) i) _ (omega (arith, output_within (valid s l e) i (rw (counts s l e).units at h))) refl).num.abs
+
+  pub point_term_within : (class : ℕ) {target i : ℕ} → target ≤ l.pars → i < l.points → nat_abs (weighted_term (content_of s) point_subject class target i) ≤ 104000000000
+  unfolding weighted_term power_of
+  point_term_within class {i = i} k h = (weighed (point_asked k i h) (tenfold_in (point (content_of s) i).sort class (net_schedule (point (content_of s) i))) _ (omega (arith, point_power_within (valid s l e) class i (rw (counts s l e).points at h))) refl).num.abs
+
+  pub par_term_within : (class : ℕ) {i : ℕ} → i < l.pars → nat_abs (weighted_term (content_of s) par_subject class 0 i) ≤ 104000000000
+  unfolding weighted_term power_of
+  par_term_within class {i} h = (weighed (par_asked i h) (tenfold_in (par (content_of s) i).class class ((par (content_of s) i).actual -ℤ (par (content_of s) i).target)) _ (omega (arith, par_power_within (valid s l e) class i (rw (counts s l e).pars at h))) refl).num.abs
+
+  -- a point's net schedule, n, and ten times that in its class, t, as the calls returned them
+  module _ (i : ℕ) (h : i < l.points) (p : Point) (ep : p ≡ point (content_of s) i) (n : ℤ) (en : n ≡ net_schedule p) where
+    pub net_small : nat_abs (rd n) ≤ 400000
+    net_small = small en (rw ep (net_within ((valid s l e).point_fits i (rw (counts s l e).points at h))))
+
+    pub point_power_read : (class : ℕ) (t : ℤ) → t ≡ tenfold_in p.sort class (rd n) →
+        Num (rd t) (tenfold_in (point (content_of s) i).sort class (net_schedule (point (content_of s) i))) 4000000
+    point_power_read class t et =
+        let f = (valid s l e).point_fits i (rw (counts s l e).points at h) in
+        num_is t _ 4000000 (et ∙ tenfold_is en (rw ep (net_within f)) p.sort class ∙ ap (λ (q : Point). tenfold_in q.sort class (net_schedule q)) ep)
+        (point_power_within (valid s l e) class i (rw (counts s l e).points at h)) (lit< tt)
+
+  -- what a PAR's flow has more than its target, and ten times that in its class
+  module _ (i : ℕ) (h : i < l.pars) (p : Par) (ep : p ≡ par (content_of s) i) (n : ℤ) (en : n ≡ p.actual -ℤ p.target) where
+    pub over_small : nat_abs (rd n) ≤ 400000
+    over_small = small en (rw ep (over_within ((valid s l e).par_fits i (rw (counts s l e).pars at h))))
+
+    pub par_power_read : (class : ℕ) (t : ℤ) → t ≡ tenfold_in p.class class (rd n) →
+        Num (rd t) (tenfold_in (par (content_of s) i).class class ((par (content_of s) i).actual -ℤ (par (content_of s) i).target)) 4000000
+    par_power_read class t et =
+        let f = (valid s l e).par_fits i (rw (counts s l e).pars at h) in
+        num_is t _ 4000000 (et ∙ tenfold_is en (rw ep (over_within f)) p.class class ∙ ap (λ (q : Par). tenfold_in q.class class (q.actual -ℤ q.target)) ep)
+        (par_power_within (valid s l e) class i (rw (counts s l e).pars at h)) (lit< tt)
+
+  -- a zone's load as it is lent
+  pub load_read : {array : List ℤ} → array ≡ zone_loads (content_of s) → (z : ℕ) → z < l.zones → get_or array z (pos 0) ≡ zone_load (content_of s) z
   unfolding figure_at
-  load_read = rw g.loads (cell_at (zone_load (content_of s)) (length (content_of s).zones) z (valid s l g.accepted).zones_most in_content)
+  load_read g z h = rw g (cell_at (zone_load (content_of s)) (length (content_of s).zones) z (valid s l e).zones_most (rw (counts s l e).zones at h))
 
-  pub load_term_lem : (f : ℤ) → f ≡ factor_for (content_of s).factors target zone_subject (z + 1) → Op (rd (get_or array z (pos 0)) *ℤ rd f) (load_term (content_of s) target z) 104000000000
-  unfolding load_term factor
-  load_term_lem f ef =
-      let v = valid s l g.accepted in
-      mul (num_is (get_or array z (pos 0)) (zone_load (content_of s) z) 10400000 load_read (zone_load_within v z in_content) (lit< tt))
-      (num_is f _ 10000 ef (zone-factor-within v (omega (arith, (counts s l g.accepted).pars)) z in_content) (lit< tt)) (lit< tt)
+  pub load_most : (z : ℕ) → z < l.zones → nat_abs (zone_load (content_of s) z) ≤ 10400000
+  load_most z h = zone_load_within (valid s l e) z (rw (counts s l e).zones at h)
 
-  pub load_term_within : nat_abs (load_term (content_of s) target z) ≤ 104000000000
-  load_term_within = (load_term_lem _ refl).num.abs
+  -- a zone's term, from its load as it is read
+  pub load_term_lem : {array : List ℤ} → array ≡ zone_loads (content_of s) → (target z : ℕ) → z < l.zones →
+      rd (get_or array z (pos 0)) *ℤ factor (content_of s) target zone_subject z ≡ load_term (content_of s) target z
+  unfolding load_term
+  load_term_lem g target z h = rw (num_is _ _ 10400000 (load_read g z h) (load_most z h) (lit< tt)).is
+
+  pub load_term_within : {target z : ℕ} → target ≤ l.pars → z < l.zones → nat_abs (load_term (content_of s) target z) ≤ 104000000000
+  unfolding load_term
+  load_term_within {z = z} k h = (weighed (zone_asked k z h) (zone_load (content_of s) z) _ (load_most z h) refl).num.abs

@@ -1,144 +1,114 @@
 #![tactic(auto)]
 // The weighted sums of steps 3 to 5: what each record brings, times its factor on a target.
 // What a unit, point or PAR brings stands in its record; a zone brings its zone load, which is lent.
-ghost use Rattle.std.specs.Prelude.{◌≡◌, ◌<◌, ◌≤◌, nat_abs, ◌-ℤ◌};
-ghost use Rattle.due_factors.specs.Due.{Asked, how_many};
-ghost use Rattle.records.specs.Codes.{unit_subject, zone_subject, point_subject, par_subject};
-ghost use Rattle.sheet.specs.Sheet.{read_sheet, content_of};
-ghost use Rattle.sheet.specs.declared.Outcome.TheVariants.{Accepted};
-ghost use Rattle.figures.specs.Flow.{load_term, weighted_load, net_schedule};
-ghost use Rattle.weighted_sums.specs.inner.Weighted.{Lent, OnTarget, tenfold_in, power_of, weighted_term, weighted_sum};
+ghost use Rattle.std.specs.Prelude.{◌≡◌, ◌<◌, ◌≤◌, nat_abs, ◌-ℤ◌, ◌*ℤ◌};
+ghost use Rattle.due_factors.specs.Due.{Asked};
+ghost use Rattle.records.specs.Codes.{class_code, subject_code, unit_subject, point_subject, par_subject};
+ghost use Rattle.sheet.specs.Sheet.{content_of};
+ghost use Rattle.figures.specs.Flow.{factor, load_term, weighted_load, net_schedule};
+ghost use Rattle.zone_sums.specs.ByZone as by_zone;
+ghost use Rattle.weighted_sums.specs.inner.Weighted.{tenfold_in, weighted_term, weighted_sum};
 
-use records::{Par, Point};
+use records::{Class, Par, Point, Subject};
+use sheet::AcceptedSheet;
 
-fn how_many(l: layout::Layout, subject: u8) -> usize
-    requires { subject ≡ zone_subject → ⊥ }
-    ensures { result ≡ how_many l.zones l.units l.points l.pars subject }
-{
-    if subject == records::UNIT {
-        return l.units;
-    }
-    if subject == records::POINT {
-        return l.points;
-    }
-    l.pars
-}
+// The flowgate as a target, which alone has factors of PARs.
+const FLOWGATE: usize = 0;
 
-// Ten times a record's power, if the record is of the class asked.
-fn tenfold_in(of: u8, class: u8, power: i64) -> i64
+// Ten times a record's power, if the record is of the class asked. of: the record's code, a number in the C interface.
+#[tactic(auto, unfolding(crate::specs::inner::Weighted::tenfold_in))]
+fn tenfold_in(of: u8, class: Class, power: i64) -> i64
     requires { nat_abs power ≤ 400000 }
-    ensures { result ≡ tenfold_in of class power }
+    ensures { result ≡ tenfold_in of (class_code class) power }
 {
-    if of != class {
-        return 0;
-    }
-    power * 10
+    if of == class.code() { power * 10 } else { 0 }
 }
 
-fn net_schedule(p: Point) -> i64
-    ensures { result ≡ net_schedule p }
+#[tactic(auto, unfolding(figures::specs::Flow::net_schedule))]
+fn net_schedule(p: &Point) -> i64
+    ensures { result ≡ net_schedule p.now }
 {
     p.import as i64 + p.wheel_in as i64 - p.export as i64 - p.wheel_out as i64
 }
 
-fn over_target(p: Par) -> i64
-    ensures { result ≡ p.actual -ℤ p.target }
+fn over_target(p: &Par) -> i64
+    ensures { result ≡ p.now.actual -ℤ p.now.target }
 {
     p.actual as i64 - p.target as i64
 }
 
-fn unit_power(s: &[u8], l: layout::Layout, class: u8, i: usize) -> i64
-    requires { (read_sheet s.now ≡ Accepted l) × (i < l.units) }
-    ensures { result ≡ power_of (content_of s.now) unit_subject class i }
+// A power times the factor, on the target, of the record that brings it.
+fn weigh(sheet: &AcceptedSheet<'_>, target: usize, subject: Subject, i: usize, power: i64) -> i64
+    requires { Asked sheet.now.layout.zones sheet.now.layout.units sheet.now.layout.points sheet.now.layout.pars target (subject_code subject) i × (nat_abs power ≤ 10400000) }
+    ensures { result ≡ power *ℤ factor (content_of sheet.now.bytes.now) target (subject_code subject) i }
 {
-    let u = sheet_records::unit_at(s, l, i);
-    u.output as i64
-}
-
-fn point_power(s: &[u8], l: layout::Layout, class: u8, i: usize) -> i64
-    requires { (read_sheet s.now ≡ Accepted l) × (i < l.points) }
-    ensures { result ≡ power_of (content_of s.now) point_subject class i }
-{
-    let p = sheet_records::point_at(s, l, i);
-    tenfold_in(p.sort, class, net_schedule(p))
-}
-
-fn par_power(s: &[u8], l: layout::Layout, class: u8, i: usize) -> i64
-    requires { (read_sheet s.now ≡ Accepted l) × (i < l.pars) }
-    ensures { result ≡ power_of (content_of s.now) par_subject class i }
-{
-    let p = sheet_records::par_at(s, l, i);
-    tenfold_in(p.class, class, over_target(p))
-}
-
-fn power_of(s: &[u8], l: layout::Layout, subject: u8, class: u8, i: usize) -> i64
-    requires { (read_sheet s.now ≡ Accepted l) × (subject ≡ zone_subject → ⊥) × (i < how_many l.zones l.units l.points l.pars subject) }
-    ensures { result ≡ power_of (content_of s.now) subject class i }
-{
-    if subject == records::UNIT {
-        return unit_power(s, l, class, i);
-    }
-    if subject == records::POINT {
-        return point_power(s, l, class, i);
-    }
-    par_power(s, l, class, i)
-}
-
-fn term_of(s: &[u8], l: layout::Layout, subject: u8, class: u8, target: usize, i: usize) -> i64
-    requires { (read_sheet s.now ≡ Accepted l) × (subject ≡ zone_subject → ⊥) × Asked l.zones l.units l.points l.pars target subject i }
-    ensures { result ≡ weighted_term (content_of s.now) subject class target i }
-{
-    let power = power_of(s, l, subject, class, i);
-    let factor = sheet_records::factor_at(s, l, target, subject, i);
+    let factor = sheet_records::factor_at(sheet, target, subject, i);
     power * factor
 }
 
-// Over all records of a subject other than zones; where these are points or PARs, over those of the class.
-pub fn weighted(s: &[u8], l: layout::Layout, subject: u8, class: u8, target: usize) -> i64
-    requires { (read_sheet s.now ≡ Accepted l) × OnTarget l.pars target subject }
-    ensures { result ≡ weighted_sum (content_of s.now) subject class target }
+fn output_term(sheet: &AcceptedSheet<'_>, target: usize, i: usize) -> i64
+    requires { (target ≤ sheet.now.layout.pars) × (i < sheet.now.layout.units) }
+    ensures { result ≡ weighted_term (content_of sheet.now.bytes.now) unit_subject 0 target i }
 {
-    let n = how_many(l, subject);
-    let mut sum: i64 = 0;
-    let mut i = 0;
-    while i < n {
-        sum += term_of(s, l, subject, class, target, i);
-        i += 1;
-    }
-    sum
+    let u = sheet_records::unit_at(sheet, i);
+    weigh(sheet, target, Subject::Unit, i, u.output as i64)
 }
 
-fn load_term<'a>(
-    s: &[u8],
-    l: layout::Layout,
-    zone_loads: &'a [i64; 32],
-    target: usize,
-    z: usize,
-) -> i64
-    requires { Lent s.now l zone_loads.now × (target ≤ l.pars) × (z < l.zones) }
-    ensures { result ≡ load_term (content_of s.now) target z }
+fn point_term(sheet: &AcceptedSheet<'_>, class: Class, target: usize, i: usize) -> i64
+    requires { (target ≤ sheet.now.layout.pars) × (i < sheet.now.layout.points) }
+    ensures { result ≡ weighted_term (content_of sheet.now.bytes.now) point_subject (class_code class) target i }
 {
-    let load = zone_loads[z];
-    let factor = sheet_records::factor_at(s, l, target, records::ZONE, z);
-    load * factor
+    let p = sheet_records::point_at(sheet, i);
+    let power = tenfold_in(p.sort, class, net_schedule(&p));
+    weigh(sheet, target, Subject::Point, i, power)
+}
+
+fn par_term(sheet: &AcceptedSheet<'_>, class: Class, i: usize) -> i64
+    requires { i < sheet.now.layout.pars }
+    ensures { result ≡ weighted_term (content_of sheet.now.bytes.now) par_subject (class_code class) 0 i }
+{
+    let p = sheet_records::par_at(sheet, i);
+    let power = tenfold_in(p.class, class, over_target(&p));
+    weigh(sheet, FLOWGATE, Subject::Par, i, power)
+}
+
+fn load_term(sheet: &AcceptedSheet<'_>, zone_loads: &[i64; 32], target: usize, z: usize) -> i64
+    requires { (zone_loads.now ≡ by_zone.zone_loads (content_of sheet.now.bytes.now)) × (target ≤ sheet.now.layout.pars) × (z < sheet.now.layout.zones) }
+    ensures { result ≡ load_term (content_of sheet.now.bytes.now) target z }
+{
+    weigh(sheet, target, Subject::Zone, z, zone_loads[z])
+}
+
+// Over all units: document 01's A.
+pub fn output(sheet: &AcceptedSheet<'_>, target: usize) -> i64
+    requires { target ≤ sheet.now.layout.pars }
+    ensures { result ≡ weighted_sum (content_of sheet.now.bytes.now) unit_subject 0 target }
+{
+    sums::sum_to(sheet.layout.units, |i| output_term(sheet, target, i))
+}
+
+// Over the points of a type.
+pub fn points(sheet: &AcceptedSheet<'_>, class: Class, target: usize) -> i64
+    requires { target ≤ sheet.now.layout.pars }
+    ensures { result ≡ weighted_sum (content_of sheet.now.bytes.now) point_subject (class_code class) target }
+{
+    sums::sum_to(sheet.layout.points, |i| point_term(sheet, class, target, i))
+}
+
+// Over the PARs of a class, on the flowgate.
+pub fn pars(sheet: &AcceptedSheet<'_>, class: Class) -> i64
+    ensures { result ≡ weighted_sum (content_of sheet.now.bytes.now) par_subject (class_code class) 0 }
+{
+    sums::sum_to(sheet.layout.pars, |i| par_term(sheet, class, i))
 }
 
 // Over all zones: document 01's N.
-pub fn weighted_load<'a>(
-    s: &[u8],
-    l: layout::Layout,
-    zone_loads: &'a [i64; 32],
-    target: usize,
-) -> i64
-    requires { Lent s.now l zone_loads.now × (target ≤ l.pars) }
-    ensures { result ≡ weighted_load (content_of s.now) target }
+pub fn weighted_load(sheet: &AcceptedSheet<'_>, zone_loads: &[i64; 32], target: usize) -> i64
+    requires { (zone_loads.now ≡ by_zone.zone_loads (content_of sheet.now.bytes.now)) × (target ≤ sheet.now.layout.pars) }
+    ensures { result ≡ weighted_load (content_of sheet.now.bytes.now) target }
 {
-    let n = l.zones;
-    let mut sum: i64 = 0;
-    let mut z = 0;
-    while z < n {
-        sum += load_term(s, l, zone_loads, target, z);
-        z += 1;
-    }
-    sum
+    sums::sum_to(
+        sheet.layout.zones,
+        |z| load_term(sheet, zone_loads, target, z),
+    )
 }

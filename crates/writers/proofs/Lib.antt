@@ -1,4 +1,3 @@
-pub mod Prepending
 pub mod Writing
 pub mod Decimal
 pub mod Signs

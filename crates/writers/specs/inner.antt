@@ -1,2 +1,1 @@
-pub mod Prepended
 pub mod Wrote

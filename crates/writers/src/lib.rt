@@ -1,78 +1,134 @@
 #![tactic(auto)]
-// Writers of bytes, numbers and names. A number's last digit is found first, so a text is written from its end: each writer but
-// the last is lent a buffer with a text from `at` on, puts its bytes before that, and returns where they begin.
-ghost use Rattle.std.specs.Prelude.{◌≡◌, ◌+◌, ◌*◌, ◌≤◌, ◌<◌, [], ◌∷◌, pos, length};
+// A text in memory of its own, and what is put at its end: bytes, numbers and names.
+ghost use Rattle.std.specs.Prelude.{◌≡◌, ◌+◌, ◌*◌, ◌<◌, ◌≤◌, ℕ, ℤ, List, [], ◌++◌, pos, length, take};
 ghost use Rattle.io.specs.Counts.{IsPrefixLen};
-ghost use Rattle.writers.specs.Text.{digit as Text·digit, natural, decimal, pair, unfilled, hexadecimal};
-ghost use Rattle.writers.specs.inner.Prepended.{Prepended};
+ghost use Rattle.writers.specs.Text.{digit as Text·digit, natural as Text·natural, decimal, unfilled, hexadecimal};
 ghost use Rattle.writers.specs.inner.Wrote.{Wrote};
 
-// All of the bytes.
-pub fn put_bytes(bytes: &[u8], out: &mut [u8], at: usize) -> usize
-    requires { (length bytes.now ≤ at) × (at ≤ length out.old) }
-    ensures { Prepended bytes.now out.old at out.new result }
-{
-    let from = at - bytes.len();
-    out[from..at].copy_from_slice(bytes);
-    from
+use std::marker::Model;
+
+// A text of at most N bytes.
+#[derive(Drop)]
+pub struct Text<const N: usize> {
+    bytes: [u8; N],
+    len: usize,
 }
 
+impl<const N: usize> Model for Text<N> {
+    ghost Value = { List ℕ };
+
+    ghost view = { λ t. take t.len t.bytes };
+
+    ghost invariant = { λ t. t.len ≤ N };
+}
+
+impl<const N: usize> Text<N> {
+    pub fn new() -> Self
+        ensures { result ≡ [] }
+    {
+        Text {
+            bytes: [0; N],
+            len: 0,
+        }
+    }
+
+    pub fn as_slice(&self) -> &[u8]
+        ensures value { result.now ≡ self.now }
+        ensures room { length self.now ≤ N }
+    {
+        &self.bytes[..self.len]
+    }
+
+    // All of the bytes.
+    pub fn put_bytes(&mut self, bytes: &[u8])
+        requires { length self.old + length bytes.now ≤ N }
+        ensures { self.new ≡ self.old ++ bytes.now }
+    {
+        let end = self.len + bytes.len();
+        let all = &mut self.bytes[..];
+        all[self.len..end].copy_from_slice(bytes);
+        self.len = end;
+    }
+
+    // z in decimal.
+    pub fn put_decimal<Z: Number>(&mut self, z: Z)
+        requires { length self.old + 20 ≤ N }
+        ensures written { self.new ≡ self.old ++ decimal (Z.value z) }
+        ensures room { length self.new ≤ length self.old + 20 }
+    {
+        self.put_bytes(z.digits().as_slice());
+    }
+
+    // The two hexadecimal digits of each byte.
+    pub fn put_hexadecimal(&mut self, bytes: &[u8])
+        requires { length self.old + 2 * length bytes.now ≤ N }
+        ensures written { self.new ≡ self.old ++ hexadecimal bytes.now }
+        ensures room { length self.new ≤ length self.old + 2 * length bytes.now }
+    {
+        for b in bytes {
+            self.put_bytes(&[digit(*b / 16), digit(*b % 16)]);
+        }
+    }
+
+    // The hexadecimal digits of a name without its filling.
+    pub fn put_name(&mut self, name: &[u8])
+        requires { length self.old + 2 * length name.now ≤ N }
+        ensures written { self.new ≡ self.old ++ hexadecimal (unfilled name.now) }
+        ensures room { length self.new ≤ length self.old + 2 * length name.now }
+    {
+        self.put_hexadecimal(&name[..used(name)]);
+    }
+}
+
+// A number of at most 64 bits.
+pub trait Number: Copy {
+    ghost value: { Self → ℤ };
+
+    // The number in decimal without leading zeros, a minus before a negative one.
+    fn digits(self) -> Text<20>
+        ensures { result ≡ decimal (value self) };
+}
+
+impl Number for i64 {
+    ghost value = { λ z. z };
+
+    #[tactic(auto, unfolding(crate::specs::Text::decimal, crate::specs::Text::ascii))]
+    fn digits(self) -> Text<20> {
+        let mut text = Text::new();
+        if self < 0 {
+            text.put_bytes(b"-");
+        }
+        text.put_bytes(natural(self.unsigned_abs()).as_slice());
+        text
+    }
+}
+
+impl Number for usize {
+    ghost value = { pos };
+
+    #[tactic(auto, unfolding(crate::specs::Text::decimal))]
+    fn digits(self) -> Text<20> {
+        natural(self as u64)
+    }
+}
+
+// n in decimal without leading zeros. By hand: `write!` asks for a `fmt::Write` with errors, which is no plainer.
+#[tactic(auto, using(crate::proofs::Decimal::natural_digit, crate::proofs::Decimal::natural_more))]
+fn natural(n: u64) -> Text<20>
+    ensures { result ≡ Text·natural n }
+{
+    let mut digits = if n < 10 { Text::new() } else { natural(n / 10) };
+    digits.put_bytes(&[digit((n % 10) as u8)]);
+    digits
+}
+
+// The digit for a number below 16. `char::from_digit` gives an Option of a wider type, which is no plainer.
+#[tactic(auto, unfolding(crate::specs::Text::ascii))]
 fn digit(d: u8) -> u8
     requires { d < 16 }
     ensures { result ≡ Text·digit d }
 {
-    let digits = b"0123456789abcdef";
-    digits[d as usize]
-}
-
-// Two digits.
-fn put_pair(high: u8, low: u8, out: &mut [u8], at: usize) -> usize
-    requires { ((high < 16) × (low < 16)) × ((2 ≤ at) × (at ≤ length out.old)) }
-    ensures { Prepended (Text·digit high ∷ Text·digit low ∷ []) out.old at out.new result }
-{
-    out[at - 1] = digit(low);
-    out[at - 2] = digit(high);
-    at - 2
-}
-
-// n in decimal without leading zeros, two digits at a time.
-fn put_natural(n: u64, out: &mut [u8], at: usize) -> usize
-    requires { (length (natural n) ≤ at) × (at ≤ length out.old) }
-    ensures { Prepended (natural n) out.old at out.new result }
-{
-    if n < 10 {
-        out[at - 1] = digit(n as u8);
-        return at - 1;
-    }
-    let last = (n % 100) as u8;
-    let from = put_pair(last / 10, last % 10, out, at);
-    if n < 100 {
-        return from;
-    }
-    put_natural(n / 100, out, from)
-}
-
-// z in decimal, a minus before a negative one.
-pub fn put_decimal(z: i64, out: &mut [u8], at: usize) -> usize
-    requires { (20 ≤ at) × (at ≤ length out.old) }
-    ensures prepended { Prepended (decimal z) out.old at out.new result }
-    ensures at_bound { at ≤ result + 20 }
-{
-    let m = integers::magnitude(z);
-    let from = put_natural(m, out, at);
-    if z < 0 {
-        return put_bytes(b"-", out, from);
-    }
-    from
-}
-
-// n in decimal.
-pub fn put_count(n: usize, out: &mut [u8], at: usize) -> usize
-    requires { (20 ≤ at) × (at ≤ length out.old) }
-    ensures prepended { Prepended (decimal (pos n)) out.old at out.new result }
-    ensures at_bound { at ≤ result + 20 }
-{
-    put_natural(n as u64, out, at)
+    b"0123456789abcdef"[usize::from(d)]
 }
 
 // How many bytes of a name stand before its filling.
@@ -80,45 +136,7 @@ pub fn used(name: &[u8]) -> usize
     ensures value { result ≡ length (unfilled name.now) }
     ensures prefix_len { IsPrefixLen result name.now }
 {
-    if name.len() == 0 {
-        return 0;
-    }
-    if name[0] == 0 {
-        return 0;
-    }
-    1 + used(&name[1..])
-}
-
-// The two hexadecimal digits of a byte.
-fn put_byte(b: u8, out: &mut [u8], at: usize) -> usize
-    requires { (2 ≤ at) × (at ≤ length out.old) }
-    ensures { Prepended (pair b) out.old at out.new result }
-{
-    put_pair(b / 16, b % 16, out, at)
-}
-
-// The hexadecimal digits of all bytes.
-pub fn put_hexadecimal(bytes: &[u8], out: &mut [u8], at: usize) -> usize
-    requires { (2 * length bytes.now ≤ at) × (at ≤ length out.old) }
-    ensures { Prepended (hexadecimal bytes.now) out.old at out.new result }
-{
-    let n = bytes.len();
-    if n == 0 {
-        return at;
-    }
-    let b = bytes[n - 1];
-    let from = put_byte(b, out, at);
-    put_hexadecimal(&bytes[..n - 1], out, from)
-}
-
-// The hexadecimal digits of a name without its filling.
-pub fn put_name(name: &[u8], out: &mut [u8], at: usize) -> usize
-    requires { (2 * length name.now ≤ at) × (at ≤ length out.old) }
-    ensures prepended { Prepended (hexadecimal (unfilled name.now)) out.old at out.new result }
-    ensures at_bound { at ≤ result + 2 * length name.now }
-{
-    let n = used(name);
-    put_hexadecimal(&name[..n], out, at)
+    name.iter().position(|b| *b == 0).unwrap_or(name.len())
 }
 
 // All of the bytes at the front of the buffer. Returns how many these are.

@@ -15,7 +15,7 @@ use Rattle.records.specs.declared.Place.TheVariants.{Proxy, Line}
 use Rattle.records.specs.Content.{Content, zone, point}
 use Rattle.record_rows.specs.inner.Valid.{Valid, LineFits}
 use Rattle.figures.specs.Balance.{same_place, import_at, imports, export_at, exports, total_load, output, output_in, zone_output}
-use Rattle.zone_sums.specs.declared.Ledger.TheVariants.{Loads, Outputs, Imports, Exports}
+use Rattle.zone_sums.specs.inner.Ledger.{Loads, Outputs, Imports, Exports}
 use Rattle.zone_sums.specs.inner.Ledger.{number_of, booking_of, bookings, booked_at, sum_at, Small, amount_at, net_at, total}
 
 -- a booking at a place's number

@@ -1,30 +1,46 @@
 -- `balance_row` meets its contract.
-use Prim.Native.Nat.{◌≤◌}
-use mathlib.Core.Path.{◌∙◌}
-use lib.ListN.{length}
-use mir.Facts.{to_z-of_z}
-use mir.Syntax.{w64}
-use mir.Val.{SFits}
-use borrow.Author.Rules.{rules}
-use Rattle.figures.specs.Balance.{zone_load, zone_generation, none_below_zero, balance_row}
-use Rattle.balance.proofs.Laws.{none_below, zero_bits}
+use native.Mathlib.Omega.{arith}
+use Rattle.std.proofs.lemmas.Grind.{common_steps}
+use mathlib.Core.Path.{◌≡◌}
+use mathlib.Core.Bool.{true, false, ◌||◌}
+use lib.IntN.{pos}
+use lib.Signed.{lt_z, le_z}
+use Rattle.rows.specs.Refusals.{row_of}
+use Rattle.figures.specs.Balance.{balance_row, none_below_zero, zone_load, zone_generation, gross_load, gross_output, final_load}
+use Rattle.balance.proofs.Laws.{loads_judged, generation_judged, zero_bits}
 use Rattle.balance.proofs.balance_row.Goals as goal
-use Rattle.balance.proofs.balance_row.Goals.{After-struct_told-5-1}
 
-load_fits : (c : After-struct_told-5-1) → let a = c.args.load in SFits w64 a.gross_load × SFits w64 a.final_load
-load_fits c = search rules
+pub returns-in_err-row-2 : goal.returns-in_err-row-2
+unfolding balance_row
+returns-in_err-row-2 c x el eg ez =
+    let gross : (lt_z (pos 2000000) (gross_load x) || lt_z (pos 2000000) (gross_output x)) ≡ false = grind (arith, common_steps) in
+    let zones : none_below_zero x (zone_load x) ≡ false = grind (arith, common_steps, loads_judged x c.args.load.now c.args.zones c.requires el ez) in
+    let is : row_of c.from_residual-in_err-row-2.result ≡ 17 = grind (arith, common_steps) in
+    rw (gross, zones) is
 
-generation-fits : (c : After-struct_told-5-1) →
-    let a = c.args.generation in
-    SFits w64 a.gross_output × SFits w64 a.net_generation × SFits w64 a.final_generation
-generation-fits c = search rules
+pub returns-in_err-row-3 : goal.returns-in_err-row-3
+unfolding balance_row
+returns-in_err-row-3 c x el eg ez =
+    let gross : (lt_z (pos 2000000) (gross_load x) || lt_z (pos 2000000) (gross_output x)) ≡ false = grind (arith, common_steps) in
+    let zones : none_below_zero x (zone_load x) ≡ true = grind (arith, common_steps, loads_judged x c.args.load.now c.args.zones c.requires el ez) in
+    let final : le_z (final_load x) (pos 0) ≡ true = grind (arith, common_steps) in
+    let is : row_of c.from_residual-in_err-row-3.result ≡ 18 = grind (arith, common_steps) in
+    rw (gross, zones, final) is
+
+pub returns-in_err-row-4 : goal.returns-in_err-row-4
+unfolding balance_row
+returns-in_err-row-4 c x el eg ez =
+    let gross : (lt_z (pos 2000000) (gross_load x) || lt_z (pos 2000000) (gross_output x)) ≡ false = grind (arith, common_steps) in
+    let zones : none_below_zero x (zone_load x) ≡ true = grind (arith, common_steps, loads_judged x c.args.load.now c.args.zones c.requires el ez) in
+    let final : le_z (final_load x) (pos 0) ≡ false = grind (arith, common_steps) in
+    let generation : none_below_zero x (zone_generation x) ≡ false = grind (arith, common_steps, generation_judged x c.args.generation.now c.args.zones c.requires eg ez) in
+    let is : row_of c.from_residual-in_err-row-4.result ≡ 19 = grind (arith, common_steps) in
+    rw (gross, zones, final, generation) is
+
+pub returns-in_err-row-5 : goal.returns-in_err-row-5
+unfolding balance_row
+returns-in_err-row-5 c x el eg ez = grind (arith, common_steps, loads_judged x c.args.load.now c.args.zones c.requires el ez, generation_judged x c.args.generation.now c.args.zones c.requires eg ez, zero_bits)
 
 pub returns : goal.returns
-unfolding balance_row none_below_zero
-returns c x el eg ez =
-    let l = load_fits c.before.before.before.before.before.before in
-    let g = generation-fits c.before.before.before.before.before.before in
-    let few : length x.zones ≤ 32 = rw ez at c.requires in
-    simp (to_z-of_z l.0, to_z-of_z l.1, to_z-of_z g.0, to_z-of_z g.2, zero_bits _ g.1)
-    at (rw (c.row-5.ensures, c.row-4.ensures, c.row-3.ensures, c.row-2.ensures, c.row.ensures, c.none_below_zero.ensures, c.none_below_zero-2.ensures) at c.row-6.ensures)
-    ∙ rw (el, eg, ez, none_below (zone_load x) (length x.zones) few, none_below (zone_generation x) (length x.zones) few)
+unfolding balance_row
+returns c x el eg ez = grind (arith, common_steps, loads_judged x c.args.load.now c.args.zones c.requires el ez, generation_judged x c.args.generation.now c.args.zones c.requires eg ez, zero_bits)

@@ -1,6 +1,5 @@
 -- `explain` meets its contract, at every two byte strings.
-use mathlib.Core.Path.{◌≡◌, ap}
-use borrow.Author.Rules.{rules}
+use mathlib.Core.Path.{ap}
 use Rattle.explanation.specs.Explanation.{part_of}
 use Rattle.explanation.proofs.explain.Goals as goal
 

@@ -1,7 +1,7 @@
 -- What is asked of a finding to be printed.
 use Rattle.std.specs.Prelude.{ℕ, ◌+◌, ◌≤◌, List, length}
 use Rattle.record_table.specs.inner.Sizes.{most_size}
-use Rattle.explanation.specs.declared.Finding.{Finding}
+use Rattle.explanation.specs.Explanation.{Finding}
 
 -- its part lies in the sheet, and is no longer than a record
 pub record Fits (sheet : List ℕ) (f : Finding) : Type 0 where

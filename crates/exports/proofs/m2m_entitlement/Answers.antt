@@ -7,15 +7,12 @@ use mir.Val.{SFits}
 use borrow.Author.Rules.{rules}
 use Rattle.exports.specs.Answers.{entitlement_answer}
 use Rattle.exports.proofs.m2m_entitlement.Goals as goal
-use Rattle.exports.proofs.m2m_entitlement.Goals.{In-Found}
 
-pub returns-in-Refused : goal.returns-in-Refused
-returns-in-Refused c = sym (ap entitlement_answer (sym c.find.ensures ∙ c.in-Refused.is))
+pub returns-in-Err : goal.returns-in-Err
+returns-in-Err c = rw c.number.ensures (ap entitlement_answer c.in-Err.ensures)
 
-value-fits : (c : In-Found) → SFits w64 c.in-Found.value
-value-fits c = search rules
-
-pub returns-in-Found : goal.returns-in-Found
-returns-in-Found c =
-    ap (λ (z : ℤ). record { refusal = 0; value = z }) (to_z-of_z (value-fits c))
-    ∙ sym (ap entitlement_answer (sym c.find.ensures ∙ c.in-Found.is))
+pub returns-in-Ok : goal.returns-in-Ok
+returns-in-Ok c =
+    let value_fits : SFits w64 c.in-Ok.value = search rules in
+    ap (λ (z : ℤ). record { refusal = 0; value = z }) (to_z-of_z value_fits)
+    ∙ ap entitlement_answer c.in-Ok.ensures

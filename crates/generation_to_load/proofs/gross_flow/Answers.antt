@@ -1,7 +1,7 @@
 -- `gross_flow` meets its contract.
 use native.Mathlib.Nat.{le_refl}
 use lib.Dec.{lit<}
-use lib.IntN.{ℤ, pos, ◌-ℤ◌, ◌*ℤ◌}
+use lib.IntN.{pos, ◌-ℤ◌, ◌*ℤ◌}
 use mir.Val.{to_z}
 use mir.Syntax.{w64}
 use Rattle.integers.proofs.Machine.{Op, rd, num, num_u, sub, mul}

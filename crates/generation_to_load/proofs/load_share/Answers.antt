@@ -1,7 +1,6 @@
 -- `load_share` meets its contract.
 use native.Mathlib.Nat.{le_refl}
-use borrow.Author.Rules.{rules}
-use lib.IntN.{ℤ, pos, ◌*ℤ◌}
+use lib.IntN.{pos, ◌*ℤ◌}
 use lib.Dec.{lit<}
 use mir.Val.{to_z}
 use mir.Syntax.{w64}

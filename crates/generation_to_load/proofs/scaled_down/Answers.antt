@@ -1,7 +1,6 @@
 -- `scaled_down` meets its contract.
-use borrow.Author.Rules.{rules}
 use lib.Dec.{lit<}
-use lib.IntN.{ℤ, ◌*ℤ◌}
+use lib.IntN.{◌*ℤ◌}
 use mir.Facts.{to_z-of_z}
 use Rattle.integers.proofs.Machine.{Op, rd, num, mul}
 use Rattle.generation_to_load.proofs.Laws.{divided}

@@ -23,6 +23,7 @@ returns c =
     let i = c.settle_interval-i.result in
     let settles = c.settle_interval-i.ensures.value in
     let takes = c.take-changed.ensures in
-    let f : SFits w64 i.statement.amount = record { sfits = c.struct_told-1.given.1.1.1.1.1.1.1.1.1.1.1.1.1.1.0.1 } in
-    let w = renamed (told_is _ _ _ _ settles takes) (rw (to_z-of_z f) at c.show_sheet-length.ensures) in
+    let f : SFits w64 i.statement.amount = search rules in
+    let e = c.as_slice.ensures.value ∙ rw (to_z-of_z f) at c.sheet_line.ensures in
+    let w = renamed (e ∙ told_is _ _ _ _ settles takes) c.put-length.ensures in
     record { hour_value = ap (λ (c : Changed). c.hour) (takes ∙ ap (added _) settles); length_value = w.count; out_after = w.left; prefix_len = counted w }

@@ -1,14 +1,11 @@
--- `put_amounts` writes its lines from the last to the first.
+-- `put_amounts` puts its lines one behind the other.
+use mathlib.Core.List.{append-nil, append_assoc}
+use mir.Facts.{to_z-of_z}
 use Rattle.writers.specs.Text.{ascii}
-use Rattle.writers.proofs.Prepending.{nothing}
 use Rattle.printout.specs.Lines.{joined, amount_lines}
-use Rattle.lines.proofs.Numbers.{line-ahead}
 use Rattle.line_groups.proofs.put_amounts.Goals as goal
 
-pub returns-clause-prepended : goal.returns-clause-prepended
+pub returns-clause-written : goal.returns-clause-written
 unfolding ascii joined amount_lines
-returns-clause-prepended c =
-    let fits = c.ranges in
-    let w = line-ahead _ fits.pjm nothing c.put_line-at.ensures.prepended in
-    let w = line-ahead _ fits.nyiso w c.put_line-at-2.ensures.prepended in
-    line-ahead _ fits.amount w c.put_line.ensures.prepended
+returns-clause-written g c =
+    rw (c.put_line-3.ensures.written, c.put_line-2.ensures.written, c.put_line.ensures.written, to_z-of_z c.ranges.amount, to_z-of_z c.ranges.nyiso, to_z-of_z c.ranges.pjm) (simp (append_assoc, append-nil))

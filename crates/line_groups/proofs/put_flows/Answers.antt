@@ -1,16 +1,20 @@
--- `put_flows` writes its lines from the last to the first.
+-- `put_flows` puts its lines one behind the other.
+use mathlib.Core.List.{append-nil, append_assoc}
+use borrow.Author.Rules.{rules}
+use mir.Facts.{to_z-of_z}
+use mir.Syntax.{w64}
+use mir.Val.{SFits}
 use Rattle.writers.specs.Text.{ascii}
-use Rattle.writers.proofs.Prepending.{nothing}
 use Rattle.printout.specs.Lines.{joined, flow_lines}
-use Rattle.lines.proofs.Numbers.{line-ahead}
 use Rattle.line_groups.proofs.put_flows.Goals as goal
 
-pub returns-clause-prepended : goal.returns-clause-prepended
+pub returns-clause-written : goal.returns-clause-written
 unfolding ascii joined flow_lines
-returns-clause-prepended c =
-    let fits = c.ranges in
-    let w = line-ahead _ fits.market nothing c.put_line-at.ensures.prepended in
-    let w = line-ahead _ fits.noncommon w c.put_line-at-2.ensures.prepended in
-    let w = line-ahead _ fits.common w c.put_line-at-3.ensures.prepended in
-    let w = line-ahead _ fits.shadow w c.put_line-at-4.ensures.prepended in
-    line-ahead _ fits.parallel w c.put_line.ensures.prepended
+returns-clause-written g c =
+    let s = c.args.s.now in
+    let a : SFits w64 s.parallel = search rules in
+    let b : SFits w64 s.shadow = search rules in
+    let d : SFits w64 s.common = search rules in
+    let e : SFits w64 s.noncommon = search rules in
+    let f : SFits w64 s.market = search rules in
+    rw (c.put_line-5.ensures.written, c.put_line-4.ensures.written, c.put_line-3.ensures.written, c.put_line-2.ensures.written, c.put_line.ensures.written, to_z-of_z a, to_z-of_z b, to_z-of_z d, to_z-of_z e, to_z-of_z f) (simp (append_assoc, append-nil))

@@ -1,15 +1,20 @@
--- `put_payment` writes its lines from the last to the first.
+-- `put_payment` puts its lines one behind the other.
+use mathlib.Core.List.{append-nil, append_assoc}
+use borrow.Author.Rules.{rules}
+use mir.Facts.{to_z-of_z}
+use mir.Syntax.{w64}
+use mir.Val.{SFits}
 use Rattle.writers.specs.Text.{ascii}
-use Rattle.writers.proofs.Prepending.{nothing, ahead}
 use Rattle.printout.specs.Lines.{joined, payment_lines}
-use Rattle.lines.proofs.Numbers.{line-ahead}
-use Rattle.line_groups.proofs.Numbers.{amounts_as_is}
 use Rattle.line_groups.proofs.put_payment.Goals as goal
 
-pub returns-clause-prepended : goal.returns-clause-prepended
+pub returns-clause-written : goal.returns-clause-written
 unfolding ascii joined payment_lines
-returns-clause-prepended c =
-    let fits = c.ranges in
-    let w = ahead nothing (amounts_as_is fits.amount fits.nyiso fits.pjm c.put_amounts-at.ensures.prepended) in
-    let w = line-ahead _ fits.price w c.put_line-at.ensures.prepended in
-    line-ahead _ fits.entitlement w c.put_line.ensures.prepended
+returns-clause-written g c =
+    let s = c.args.s.now in
+    let a : SFits w64 s.entitlement = search rules in
+    let b : SFits w64 s.price = search rules in
+    let d : SFits w64 s.amount = search rules in
+    let e : SFits w64 s.nyiso = search rules in
+    let f : SFits w64 s.pjm = search rules in
+    rw (c.put_amounts.ensures.written, c.put_line-2.ensures.written, c.put_line.ensures.written, to_z-of_z a, to_z-of_z b, to_z-of_z d, to_z-of_z e, to_z-of_z f) (simp (append_assoc, append-nil))

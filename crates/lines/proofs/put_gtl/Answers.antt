@@ -1,13 +1,11 @@
--- `put_gtl` writes the second remainder, the first before it, and the flow before that.
+-- `put_gtl` puts the flow, the first remainder behind it, and the second behind that.
+use mathlib.Core.List.{append-nil, append_assoc}
+use mir.Facts.{to_z-of_z}
 use Rattle.writers.specs.Text.{ascii}
-use Rattle.writers.proofs.Prepending.{nothing}
 use Rattle.printout.specs.Lines.{joined, gtl_line}
-use Rattle.lines.proofs.Numbers.{line-ahead, figure-ahead}
 use Rattle.lines.proofs.put_gtl.Goals as goal
 
-pub returns-clause-prepended : goal.returns-clause-prepended
+pub returns-clause-written : goal.returns-clause-written
 unfolding ascii joined gtl_line
-returns-clause-prepended c =
-    let w = line-ahead _ c.ranges.second nothing c.put_line-at.ensures.prepended in
-    let w = figure-ahead _ c.ranges.first w c.put_figure-at.ensures.prepended in
-    figure-ahead _ c.ranges.flow w c.put_figure.ensures.prepended
+returns-clause-written g c =
+    rw (c.put_line.ensures.written, c.put_figure-2.ensures.written, c.put_figure.ensures.written, to_z-of_z c.ranges.flow, to_z-of_z c.ranges.first, to_z-of_z c.ranges.second) (simp (append_assoc, append-nil))

@@ -1,13 +1,9 @@
 -- `carried_sum` meets its contract.
-use Prim.Native.Nat.{◌≤◌, ◌+◌, ◌*◌, ◌-◌}
-use mathlib.Core.Path.{◌≡◌, sym, ap, ◌∙◌}
+use Prim.Native.Nat.{◌≤◌}
+use mathlib.Core.Path.{◌≡◌}
 use native.Mathlib.Omega.{arith}
-use lib.IntN.{◌+ℤ◌}
-use mir.Val.{to_z}
-use mir.Syntax.{w64}
-use Rattle.integers.specs.Sum.{sum_to}
-use Rattle.integers.proofs.Machine.{Op, rd}
-use Rattle.integers.proofs.Sums.{sum_zero, next}
+use borrow.Author.Rules.{rules}
+use Rattle.records.specs.Codes.{class_code}
 use Rattle.sheet.specs.Sheet.{content_of}
 use Rattle.sheet.proofs.Accepted.{counts}
 use Rattle.figures.specs.Flow.{carried_term, carried_sum}
@@ -15,43 +11,22 @@ use Rattle.figures.specs.inner.Most.{most_over_par}
 use Rattle.figures.proofs.Bounds.{carried_term_small}
 use Rattle.generation_to_load.proofs.Laws.{is_valid}
 use Rattle.market_flow.proofs.carried_sum.Goals as goal
-use Rattle.market_flow.proofs.carried_sum.Goals.{After-carried_term-sum, Start}
 
-few : (p : Start) → p.args.l.pars ≤ 8
-few p = omega (arith, (counts _ _ p.requires.accepted).pars, (is_valid p.requires).pars_most)
-
-step : (c : After-carried_term-sum) →
-    let t = c.before.before in
-    let a = c.args in
-    Op (to_z w64 c.loop-i.sum-bits +ℤ rd c.carried_term-sum.result) (sum_to (carried_term (content_of a.s.now) a.class) (c.loop-i.i + 1)) ((c.loop-i.i + 1) * most_over_par)
-step c =
-    let t = c.before.before in
-    let p = t.before.before in
-    let a = c.args in
-    next (carried_term (content_of a.s.now) a.class) most_over_par a.l.pars c.loop-i.i
-    (λ k l. carried_term_small (is_valid c.requires) c.requires.passed a.class k (omega (arith, (counts _ _ c.requires.accepted).pars)))
-    (omega (arith, few p.before)) c.loop-i-test.true c.loop-i.invariant.1 c.carried_term-sum.ensures
-
-pub loop-i-init : goal.loop-i-init
-loop-i-init c = (omega arith, sym (sum_zero _))
-
-pub carried_term-sum-requires : goal.carried_term-sum-requires
-carried_term-sum-requires c = (c.requires, c.loop-i-test.true)
-
-pub overflow_add-sum : goal.overflow_add-sum
-overflow_add-sum c = (step c).fits
-
-pub overflow_add-i : goal.overflow_add-i
-overflow_add-i c = omega (arith, few c.before.before.before.before.before)
-
-pub loop-i-smaller : goal.loop-i-smaller
-loop-i-smaller c = omega arith
-
-pub loop-i-preserved : goal.loop-i-preserved
-loop-i-preserved c = (omega arith, (step c).num.is)
+pub sum_to-requires : goal.sum_to-requires
+sum_to-requires c =
+    let a = c.args.served.now.ready in
+    let few : c.args.served.now.sheet.layout.pars ≤ 8 = omega (arith, (counts _ _ a.accepted).pars, (is_valid a).pars_most) in
+    record {
+      callable = λ i l. search rules;
+      most = most_over_par;
+      within = λ i r l p. let e : r ≡ carried_term (content_of c.args.served.now.sheet.bytes.now) (class_code c.args.class) i = search rules in
+          rw e (carried_term_small (is_valid a) a.passed (class_code c.args.class) i (rw (counts _ _ a.accepted).pars at l));
+      fits = omega (arith, few);
+    }
 
 pub returns : goal.returns
 unfolding carried_sum
 returns c =
-    let e : c.loop-i.i ≡ c.args.l.pars = omega arith in
-    c.loop-i.invariant.1 ∙ ap (sum_to _) (e ∙ (counts _ _ c.requires.accepted).pars)
+    let e = c.sum_to.ensures.is (carried_term (content_of c.args.served.now.sheet.bytes.now) (class_code c.args.class)) (λ i r l p. search rules) in
+    let n = (counts _ _ c.args.served.now.ready.accepted).pars in
+    search (rules, e, n)

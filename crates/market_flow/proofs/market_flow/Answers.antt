@@ -1,6 +1,6 @@
 -- `market_flow` meets its contract.
 use Prim.Native.Nat.{◌+◌}
-use lib.IntN.{ℤ, ◌+ℤ◌, ◌-ℤ◌}
+use lib.IntN.{◌+ℤ◌, ◌-ℤ◌}
 use lib.Dec.{lit<}
 use Rattle.integers.proofs.Machine.{Op, rd, num, add, sub}
 use Rattle.figures.specs.inner.Most.{most_generation_to_load, most_schedule, most_on_par, most_redirect, most_market}
@@ -23,15 +23,6 @@ five : (c : Start) →
     let a = c.args in
     Op (rd (rd (rd (rd a.gtl +ℤ rd a.parallel) +ℤ rd a.shadow) -ℤ rd a.common) -ℤ rd a.noncommon) (a.gtl +ℤ a.parallel +ℤ a.shadow -ℤ a.common -ℤ a.noncommon) most_market
 five c = sub (four c).num (num c.args.noncommon most_redirect c.requires.4 (lit< tt)) (lit< tt)
-
-pub overflow_add-result : goal.overflow_add-result
-overflow_add-result c = (two c).fits
-
-pub overflow_add-result-2 : goal.overflow_add-result-2
-overflow_add-result-2 c = (three c).fits
-
-pub overflow_sub-result : goal.overflow_sub-result
-overflow_sub-result c = (four c).fits
 
 pub overflow_sub-result-2 : goal.overflow_sub-result-2
 overflow_sub-result-2 c = (five c).fits

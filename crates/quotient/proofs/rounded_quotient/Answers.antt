@@ -12,8 +12,8 @@ use borrow.Author.Rules.{rules}
 use Rattle.integers.proofs.Linear.{zarith}
 use Rattle.integers.proofs.Tactic.{zi, zo}
 use Rattle.integers.proofs.Absolute.{abs_mul}
-use Rattle.integers.proofs.Division.{abs_rem, fit_quot, fit_rem}
-use Rattle.integers.proofs.Machine.{abs_fits, of_z_pos}
+use Rattle.integers.proofs.Division.{fit_quot, fit_rem}
+use Rattle.integers.proofs.Machine.{abs_fits}
 use Rattle.quotient.specs.Rounded.{remainder}
 use Rattle.quotient.specs.inner.Step.{step}
 use Rattle.quotient.proofs.Rounded.{quotient_rounded}
@@ -46,21 +46,12 @@ module _ (n d : ℤ) (fn : SFits w64 n) (fd : SFits w64 d) (h : pos 0 <ℤ d) wh
   difference-fits : SFits w64 (rem_z n d -ℤ k *ℤ d)
   difference-fits = rw (← step_remainder n d h) (remainder-fits (remainder n d) d (near n d h) fd)
 
-pub nonzero_div-q : goal.nonzero_div-q
-nonzero_div-q c = (of_z_pos c.requires, rw (to_z-of_z c.ranges.n, to_z-of_z c.ranges.d) (fit_quot c.ranges.n c.requires))
-
-pub nonzero_rem-r : goal.nonzero_rem-r
-nonzero_rem-r c = nonzero_div-q c
-
 -- the two results of the division, without the machine's words
 f-q : (c : Start) → SFits w64 (quot_z c.args.n c.args.d)
 f-q c = fit_quot c.ranges.n c.requires
 
 f-r : (c : Start) → SFits w64 (rem_z c.args.n c.args.d)
 f-r c = fit_rem c.args.d c.ranges.n
-
-pub step_of-k-requires : goal.step_of-k-requires
-step_of-k-requires c = simp (to_z-of_z, c.ranges.n, c.ranges.d, f-r c) (c.requires, abs_rem c.args.n c.args.d c.requires)
 
 k-is : (c : After-step_of-k) → c.step_of-k.result ≡ step (quot_z c.before.args.n c.before.args.d) (rem_z c.before.args.n c.before.args.d) c.before.args.d
 k-is c = simp (to_z-of_z, c.before.ranges.n, c.before.ranges.d, f-q c.before, f-r c.before) at c.step_of-k.ensures

@@ -1,6 +1,8 @@
 -- `record_number` meets its contract.
 use mathlib.Core.Path.{refl}
 use native.Mathlib.Omega.{arith}
+use Rattle.fields.specs.Fields.{byte_at}
+use Rattle.record_table.proofs.ByKind.{size_most}
 use Rattle.record_numbers.proofs.Counted.{begun, next, done, none_there}
 use Rattle.record_numbers.proofs.record_number.Goals as goal
 
@@ -10,16 +12,11 @@ returns-then-sheet-at c = none_there _ _ c.if-sheet-at.true
 pub loop-from-init : goal.loop-from-init
 loop-from-init c = begun _ _ _ (omega arith) refl
 
--- behind a record it is counted
-pub returns-then-at-from : goal.returns-then-at-from
-returns-then-at-from c =
-    done _ _ _ _ _
-    (next _ _ _ _ _ c.loop-from.invariant c.loop-from-test.true _ _ c.one_if_same-number.ensures.1 c.one_if_same-number.ensures.0 c.body_length-body.ensures)
-    (omega (arith, c.if-at-from.true))
+pub overflow_add-from : goal.overflow_add-from
+overflow_add-from c = omega (arith, c.body_length.ensures, size_most (byte_at c.args.sheet.now c.loop-from.from))
 
 pub loop-from-preserved : goal.loop-from-preserved
-loop-from-preserved c =
-    next _ _ _ _ _ c.loop-from.invariant c.loop-from-test.true _ _ c.one_if_same-number.ensures.1 c.one_if_same-number.ensures.0 c.body_length-body.ensures
+loop-from-preserved c = next _ _ _ _ _ c.loop-from.invariant c.loop-from-test.true _ _ c.from-number.ensures c.body_length.ensures
 
 pub returns : goal.returns
 returns c = done _ _ _ _ _ c.loop-from.invariant (omega arith)

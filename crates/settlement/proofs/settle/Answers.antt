@@ -1,5 +1,4 @@
 -- `settle` hands out the interval's statement.
-use borrow.Author.Rules.{rules}
 use Rattle.settlement.proofs.settle.Goals as goal
 
 pub returns : goal.returns

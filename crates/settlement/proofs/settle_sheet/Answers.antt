@@ -1,42 +1,31 @@
 -- `settle_sheet` meets its contract.
 use Prim.Native.Nat.{◌≤◌}
-use mathlib.Core.Path.{◌≡◌, sym, ap, subst, ◌∙◌}
+use mathlib.Core.Path.{◌≡◌, sym, ap, subst}
 use lib.IntN.{ℤ, nat_abs}
 use mir.Facts.{to_z-of_z}
 use mir.Syntax.{w64}
 use mir.Val.{SFits}
 use borrow.Author.Rules.{rules}
-use Rattle.records.specs.Content.{head}
-use Rattle.sheet.specs.Sheet.{content_of}
-use Rattle.entitlements.specs.Entitlements.{entitlement}
 use Rattle.entitlements.proofs.Answers.{value_within}
 use Rattle.settlement.specs.Settled.{by_list, after_sheet}
+use Rattle.std.specs.Prelude.{Err}
 use Rattle.settlement.proofs.settle_sheet.Goals as goal
-use Rattle.settlement.proofs.settle_sheet.Goals.{After-find, In-Found}
-
--- what the list says of the flowgate
-found-is : (c : After-find) →
-    c.find.result ≡ entitlement c.args.list.now (head (content_of c.args.sheet.now)).name
-found-is c = rw c.head_at-h.ensures at c.find.ensures
-
-e-fits : (c : In-Found) → SFits w64 c.in-Found.e
-e-fits c = search rules
 
 pub settle_balance-requires : goal.settle_balance-requires
 settle_balance-requires c =
-    let found-is-here : (c.find.result ≡ entitlement c.args.list.now (head (content_of c.args.sheet.now)).name) = rw c.head_at-h.ensures at c.find.ensures in
-    let e = sym found-is-here ∙ c.in-Found.is in
-    (c.requires, subst (λ (z : ℤ). nat_abs z ≤ 100000) (sym (to_z-of_z (e-fits c))) (value_within _ _ _ e))
+    let e_fits : SFits w64 c.in_ok-e.e = search rules in
+    subst (λ (z : ℤ). nat_abs z ≤ 100000) (sym (to_z-of_z e_fits)) (value_within _ _ _ (sym c.in_ok-e.ensures))
 
-pub returns-in-Refused : goal.returns-in-Refused
+pub returns-in_err-e : goal.returns-in_err-e
 unfolding after_sheet by_list
-returns-in-Refused c =
-    let found-is-here : (c.find.result ≡ entitlement c.args.list.now (head (content_of c.args.sheet.now)).name) = rw c.head_at-h.ensures at c.find.ensures in
-    c.refused.ensures ∙ sym (ap (by_list _) (sym found-is-here ∙ c.in-Refused.is))
+returns-in_err-e c =
+    let e : c.from_residual.result ≡ Err c.in_err-e.field-0.0 = search rules in
+    let f = rw c.head_at-h.ensures at c.in_err-e.ensures in
+    rw e (ap (by_list _) f)
 
-pub returns-in-Found : goal.returns-in-Found
+pub returns : goal.returns
 unfolding after_sheet by_list
-returns-in-Found c =
-    let e-fits-here : (SFits w64 c.in-Found.e) = search rules in
-    let found-is-here : (c.find.result ≡ entitlement c.args.list.now (head (content_of c.args.sheet.now)).name) = rw c.head_at-h.ensures at c.find.ensures in
-    rw (to_z-of_z e-fits-here) at c.settle_balance.ensures ∙ sym (ap (by_list _) (sym found-is-here ∙ c.in-Found.is))
+returns c =
+    let e_fits : SFits w64 c.in_ok-e.e = search rules in
+    let f = rw c.head_at-h.ensures at c.in_ok-e.ensures in
+    rw (← f) (rw (to_z-of_z e_fits) at c.settle_balance.ensures)

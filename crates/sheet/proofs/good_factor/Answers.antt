@@ -7,7 +7,6 @@ use Rattle.fields.specs.Fields.{byte_at}
 use Rattle.rows.proofs.NotMet.{both}
 use mir.Facts.{to_z-of_z}
 use mir.Syntax.{w16}
-use borrow.Author.Rules.{rules}
 use Rattle.sheet.proofs.good_factor.Goals as goal
 
 pub returns : goal.returns
@@ -20,7 +19,7 @@ returns c =
     record {
       bytes = bytes;
       whole = c.requires;
-      kind = eqb-true _ _ b.0;
+      kind = rw c.code.ensures at (eqb-true (byte_at c.args.s.now c.args.at) c.code.result b.0);
       bears = sym c.be32_at.ensures ∙ eqb-true _ _ b.1;
       range = rw (← f.ensures) (rw (to_z-of_z {w = w16} {z = f.result} (record { sfits = f.type_inv })) at (sym c.factor_beyond.ensures ∙ not-true _ a.1));
     }

@@ -1,5 +1,5 @@
 -- Which factors pass in a run.
-use Rattle.std.specs.Prelude.{ℕ, ◌+◌, ◌*◌, ◌≤◌, ◌<◌, ◌≡◌, false, cond, List, ltb, length}
+use Rattle.std.specs.Prelude.{ℕ, ◌+◌, ◌*◌, ◌≤◌, ◌<◌, ◌≡◌, false, List, length}
 use Rattle.fields.specs.Fields.{byte_at, be32, sbe16}
 use Rattle.due_factors.specs.declared.Due.{Due}
 use Rattle.rows.specs.Rows.{beyond}
@@ -21,6 +21,3 @@ pub record Good (s : List ℕ) (at key : ℕ) : Type 0 where
 -- r factors more
 abbrev pub with_factors : Layout → ℕ → Layout
 with_factors l r = record { heads = l.heads; zones = l.zones; units = l.units; points = l.points; pars = l.pars; factors = l.factors + r; paths = l.paths; circulations = l.circulations }
-
-abbrev pub lesser : ℕ → ℕ → ℕ
-lesser a b = cond (ltb a b) a b

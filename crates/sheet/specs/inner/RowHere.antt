@@ -1,5 +1,5 @@
 -- What the reader learns of one record.
-use Rattle.std.specs.Prelude.{ℕ, ◌+◌, ◌<◌, ◌≡◌, List, ◌⊎◌, drop}
+use Rattle.std.specs.Prelude.{ℕ, ◌+◌, ◌≡◌, List, drop}
 use Rattle.fields.specs.Fields.{byte_at}
 use Rattle.record_rows.specs.Rows.{record_row}
 use Rattle.layout.specs.declared.Layout.{Layout}
@@ -10,7 +10,3 @@ use Rattle.layout.specs.inner.Listed.{Listed}
 pub record RowHere (s : List ℕ) (l : Layout) (last at : ℕ) (table : List ℕ) (number : ℕ) : Type 0 where
   pub is : number ≡ record_row (content_at s l) last (byte_at s at) (drop (at + 1) s)
   pub listed : number ≡ 0 → Listed s (counted l (byte_at s at)) (byte_at s at) table
-
--- behind the factors: a record of a later kind stands before, or is the one
-abbrev pub Behind : ℕ → ℕ → Type 0
-Behind last kind = (6 < last) ⊎ (6 < kind)

@@ -1,16 +1,6 @@
 -- `par_at` meets its contract.
-use native.Mathlib.Omega.{arith}
-use Rattle.sheet.proofs.Accepted.{extent_is, par-is}
+use Rattle.sheet.proofs.Accepted.{par-is}
 use Rattle.sheet_records.proofs.par_at.Goals as goal
 
-pub body_at-requires : goal.body_at-requires
-body_at-requires c =
-    let p = c.requires in
-    (omega (arith, extent_is _ _ p.0), omega arith, omega arith, p.1)
-
-pub par_of-requires : goal.par_of-requires
-par_of-requires c = omega (arith, c.body_at.ensures.1)
-
 pub returns : goal.returns
-returns c =
-    rw (par-is _ _ c.requires.0 c.args.i c.requires.1, ← c.body_at.ensures.0) c.par_of.ensures
+returns c = rw (par-is _ _ c.args.sheet.now.accepted c.args.i c.requires, ← c.body_at.ensures.0) c.par_of.ensures

@@ -1,16 +1,6 @@
 -- `point_at` meets its contract.
-use native.Mathlib.Omega.{arith}
-use Rattle.sheet.proofs.Accepted.{extent_is, point-is}
+use Rattle.sheet.proofs.Accepted.{point-is}
 use Rattle.sheet_records.proofs.point_at.Goals as goal
 
-pub body_at-requires : goal.body_at-requires
-body_at-requires c =
-    let p = c.requires in
-    (omega (arith, extent_is _ _ p.0), omega arith, omega arith, p.1)
-
-pub point_of-requires : goal.point_of-requires
-point_of-requires c = omega (arith, c.body_at.ensures.1)
-
 pub returns : goal.returns
-returns c =
-    rw (point-is _ _ c.requires.0 c.args.i c.requires.1, ← c.body_at.ensures.0) c.point_of.ensures
+returns c = rw (point-is _ _ c.args.sheet.now.accepted c.args.i c.requires, ← c.body_at.ensures.0) c.point_of.ensures

@@ -1,16 +1,6 @@
 -- `unit_at` meets its contract.
-use native.Mathlib.Omega.{arith}
-use Rattle.sheet.proofs.Accepted.{extent_is, unit-is}
+use Rattle.sheet.proofs.Accepted.{unit-is}
 use Rattle.sheet_records.proofs.unit_at.Goals as goal
 
-pub body_at-requires : goal.body_at-requires
-body_at-requires c =
-    let p = c.requires in
-    (omega (arith, extent_is _ _ p.0), omega arith, omega arith, p.1)
-
-pub unit_of-requires : goal.unit_of-requires
-unit_of-requires c = omega (arith, c.body_at.ensures.1)
-
 pub returns : goal.returns
-returns c =
-    rw (unit-is _ _ c.requires.0 c.args.i c.requires.1, ← c.body_at.ensures.0) c.unit_of.ensures
+returns c = rw (unit-is _ _ c.args.sheet.now.accepted c.args.i c.requires, ← c.body_at.ensures.0) c.unit_of.ensures

@@ -1,20 +1,16 @@
 -- `sum_up` meets its contract: after i turns the array holds the sums over the first i bookings.
-use mathlib.Core.Path.{◌≡◌, sym, ap, ◌∙◌}
-use Prim.Native.Nat.{ℕ, ◌≤◌, ◌<◌, ◌-◌}
-use native.Mathlib.Omega.{arith}
-use lib.IntN.{pos}
-use lib.ListN.{length, get_or, length-set}
-use borrow.Author.Rules.{rules}
-use Rattle.integers.specs.Sum.{sum_to}
-use Rattle.integers.proofs.Sums.{sum_zero}
-use Rattle.sheet.specs.Sheet.{content_of}
-use Rattle.sheet.proofs.Accepted.{valid}
-use Rattle.zone_sums.specs.inner.Ledger.{booked_at, sum_at}
-use Rattle.zone_sums.proofs.Bookings.{BookingFits, booking_fits, bookings_most, part_most, turn, zeros}
+use Prim.Native.Nat.{ℕ, ◌*◌, ◌≤◌, ◌<◌}
+use mathlib.Core.Path.{◌≡◌}
+use lib.ListN.{length, get_or}
+use Rattle.records.specs.Content.{Content}
+use Rattle.zone_sums.specs.declared.Booking.{Booking}
+use Rattle.zone_sums.specs.inner.Ledger.{Ledger, booking_of}
+use Rattle.zone_sums.proofs.Bookings.{Part}
 use Rattle.zone_sums.proofs.sum_up.Given as goal
 
 abbrev pub invariant-loop-i : goal.invariant-loop-i
-invariant-loop-i l = (l.i ≤ l.n) × (length l.sums ≡ 33) × ((k : ℕ) → k < 33 → pos (get_or l.sums k 0) ≡ sum_to (booked_at (content_of l.s) l.ledger k) l.i)
-
-abbrev pub decreases-loop-i : goal.decreases-loop-i
-decreases-loop-i l = l.n - l.i
+invariant-loop-i g l = record {
+  full : length l.sums ≡ 33;
+  most : (k : ℕ) → k < 33 → get_or l.sums k 0 ≤ l.i * 4000000;
+  part : (c : Content) (ledger : Ledger) → ((i : ℕ) (b : Booking) → i < l.n → goal.F-post g l.booking i b → b ≡ booking_of c ledger i) → Part c ledger l.sums l.i;
+}

@@ -6,8 +6,12 @@ use Rattle.records.specs.declared.Place.{Place}
 use Rattle.records.specs.declared.Place.TheVariants.{Proxy, Line}
 use Rattle.records.specs.Content.{Content, zone, unit, point}
 use Rattle.zone_sums.specs.declared.Booking.{Booking}
-use Rattle.zone_sums.specs.declared.Ledger.{Ledger}
-use Rattle.zone_sums.specs.declared.Ledger.TheVariants.{Loads, Outputs, Imports, Exports}
+
+pub data Ledger : Type 0 where
+  Loads : Ledger
+  Outputs : Ledger
+  Imports : Ledger
+  Exports : Ledger
 
 unfoldable pub number_of : Place → ℕ
 number_of Proxy = 0
@@ -33,6 +37,11 @@ booked_at c ledger n i = cond (eqb (booking_of c ledger i).number n) (pos (booki
 
 unfoldable pub sum_at : Content → Ledger → ℕ → ℤ
 sum_at c ledger n = sum_to (booked_at c ledger n) (bookings c ledger)
+
+-- a booking's number is that of a sum, and its amount is small
+pub record BookingFits (b : Booking) : Type 0 where
+  pub number : b.number < 33
+  pub amount : b.amount ≤ 4000000
 
 -- the sums of a ledger, by number
 pub record Sums (c : Content) (ledger : Ledger) (sums : List ℕ) : Type 0 where

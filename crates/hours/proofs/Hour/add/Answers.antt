@@ -1,6 +1,5 @@
 -- `add` takes the interval that settling answers.
 use mathlib.Core.Path.{ap, ◌∙◌}
-use borrow.Author.Rules.{rules}
 use Rattle.hours.specs.Hour.{added}
 use Rattle.hours.proofs.Hour.add.Goals as goal
 

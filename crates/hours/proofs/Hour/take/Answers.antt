@@ -1,24 +1,24 @@
 -- `take` meets its contract.
-use mathlib.Core.Path.{sym, ◌∙◌}
-use borrow.Author.Rules.{rules}
+use mathlib.Core.Path.{refl, sym}
 use borrow.Author.Tests.{eq-eqb, ne_eqb}
+use Rattle.rows.specs.Refusals.{number}
+use Rattle.rows.proofs.Refusing.{refuses}
 use Rattle.hours.specs.Hour.{refusal_of, added}
 use Rattle.hours.proofs.Room.{admits}
 use Rattle.hours.proofs.Hour.take.Goals as goal
 
-pub returns-then-statement-ne0 : goal.returns-then-statement-ne0
+pub returns-then-i-ne0 : goal.returns-then-i-ne0
 unfolding added refusal_of
-returns-then-statement-ne0 c = simp (ne_eqb _ _ c.if-statement-ne0.true)
+returns-then-i-ne0 c = simp (ne_eqb _ _ c.if-i-ne0.true)
 
-pub returns-then-row-ne0 : goal.returns-then-row-ne0
+pub returns-in-Err : goal.returns-in-Err
 unfolding added refusal_of
-returns-then-row-ne0 c =
-    simp (eq-eqb _ _ c.if-statement-ne0.false, ← c.row_for-row.ensures, ne_eqb _ _ c.if-row-ne0.true)
+returns-in-Err c =
+    simp (eq-eqb _ _ c.if-i-ne0.false, ← c.in-Err.ensures, c.number.ensures, ne_eqb (number c.in-Err.refusal) 0 (refuses c.in-Err.refusal refl))
 
-pub with_interval-self-requires : goal.with_interval-self-requires
-with_interval-self-requires c = (admits _ _ (sym c.row_for-row.ensures ∙ c.if-row-ne0.false)).room
+pub with_interval-requires : goal.with_interval-requires
+with_interval-requires c = (admits _ _ (sym c.in-Ok.ensures)).room
 
-pub returns : goal.returns
+pub returns-in-Ok : goal.returns-in-Ok
 unfolding added refusal_of
-returns c =
-    simp (eq-eqb _ _ c.if-statement-ne0.false, sym c.row_for-row.ensures ∙ c.if-row-ne0.false, c.with_interval-self.ensures)
+returns-in-Ok c = simp (eq-eqb _ _ c.if-i-ne0.false, sym c.in-Ok.ensures, c.with_interval.ensures)

@@ -9,5 +9,5 @@ use Rattle.hours.proofs.Hour.with_interval.Goals as goal
 pub returns : goal.returns
 unfolding with_interval
 returns c =
-    let f : SFits w64 c.args.i.statement.amount = record { sfits = c.struct_told-1.given.1.1.1.1.1.1.1.1.1.1.1.1.1.1.0.1 } in
+    let f : SFits w64 c.args.i.now.statement.amount = search rules in
     simp (to_z-of_z f)

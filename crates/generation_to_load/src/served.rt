@@ -1,0 +1,14 @@
+// A sheet that meets none of rows 16 to 21.
+ghost use Rattle.generation_to_load.specs.Steps.{Ready};
+
+use crate::Balance;
+use sheet::AcceptedSheet;
+
+// The sheet, and what the flow takes of its loads and its generation.
+#[derive(Clone, Copy)]
+pub struct Served<'a> {
+    pub sheet: AcceptedSheet<'a>,
+    pub balance: Balance,
+    pub zone_loads: [i64; 32],
+    pub ghost ready: { Ready sheet.bytes.now sheet.layout balance zone_loads },
+}

@@ -1,0 +1,13 @@
+-- A unit as a record: its bytes, and that it is had back.
+use Rattle.sheet_bytes.specs.SheetBytes.{unit_body}
+use Rattle.field_writers.proofs.Records.{field}
+use Rattle.sheet_bytes.proofs.RecordBodies.{unit_returns}
+use borrow.Author.Rules.{rules}
+use Rattle.record_writers.proofs.grid.UnitRecord.put.Goals as goal
+
+pub returns-clause-wrote : goal.returns-clause-wrote
+unfolding unit_body
+returns-clause-wrote c = search (rules, field)
+
+pub returns-clause-returns : goal.returns-clause-returns
+returns-clause-returns c = search (rules, unit_returns)

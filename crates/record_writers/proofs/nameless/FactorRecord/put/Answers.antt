@@ -1,0 +1,13 @@
+-- A factor as a record: its bytes, and that it is had back.
+use Rattle.sheet_bytes.specs.SheetBytes.{factor_body}
+use Rattle.field_writers.proofs.Records.{first, field, signed16_as_is}
+use Rattle.sheet_bytes.proofs.RecordBodies.{factor_returns}
+use borrow.Author.Rules.{rules}
+use Rattle.record_writers.proofs.nameless.FactorRecord.put.Goals as goal
+
+pub returns-clause-wrote : goal.returns-clause-wrote
+unfolding factor_body
+returns-clause-wrote c = search (rules, first, field, signed16_as_is)
+
+pub returns-clause-returns : goal.returns-clause-returns
+returns-clause-returns c = search (rules, factor_returns)

@@ -1,0 +1,7 @@
+-- The booking of a point's import.
+use Rattle.zone_sums.specs.inner.Ledger.{booking_of}
+use Rattle.zone_sums.proofs.fn.imports.sum_up.Goals as goal
+
+pub returns : goal.returns
+unfolding booking_of
+returns c = rw (c.number_of.ensures, c.point_at-point.ensures)
