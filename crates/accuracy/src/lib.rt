@@ -1,2 +1,3 @@
 #![tactic(auto)]
-// How near the printed figures are to the exact ones: stated in specs/, proved in proofs/. The crate has no code of its own.
+// How near the printed figures are to the exact ones: stated in specs/, proved in proofs/. The crate has no code of
+// its own.

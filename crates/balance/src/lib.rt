@@ -1,8 +1,6 @@
 #![tactic(auto)]
 // Refusals 16 to 21, on the loads and the generation of a sheet.
-ghost use Rattle.std.specs.Prelude.{◌≡◌, ◌≤◌, MatchResult, pos, length};
-ghost use Rattle.std.specs.Int.Signed.{le_z};
-ghost use Rattle.integers.specs.Sum.{all_to};
+ghost use Rattle.std.specs.Prelude.{◌≡◌, ◌≤◌, ◌<◌, ◌≤ℤ◌, ◌↔◌, IsTrue, MatchResult, ℕ, pos, length};
 ghost use Rattle.rows.specs.Refusals.{number, row_of};
 ghost use Rattle.records.specs.Content.{Content};
 ghost use Rattle.sheet.specs.Sheet.{content_of};
@@ -17,17 +15,13 @@ use sheet::AcceptedSheet;
 // The most that loads with losses, and outputs, may sum to.
 const MOST_GROSS: i64 = 2_000_000;
 
-// Whether no zone's figure is below zero.
+// Whether no zone's figure is below zero. zones: how many of them the sheet has, since memory is fixed.
+#[tactic(auto, unfolding(zone_sums::specs::inner::Ledger::figure_at))]
 fn none_below_zero(figures: &[i64; 32], zones: usize) -> bool
     requires { zones ≤ 32 }
-    ensures { result ≡ all_to (λ z. le_z (pos 0) (figure_at figures.now z)) zones }
+    ensures { IsTrue result ↔ ((z : ℕ) → z < zones → pos 0 ≤ℤ figure_at figures.now z) }
 {
-    for z in 0..zones {
-        if figures[z] < 0 {
-            return false;
-        }
-    }
-    true
+    figures[..zones].iter().all(|figure| 0 <= *figure)
 }
 
 // The first of rows 16 to 21 that is met, downwards.

@@ -1,11 +1,12 @@
 #![tactic(auto)]
-// The reader of drafts (document 02, requests 3 and 6): a sheet's draft, to be altered and written again, or rows 1 to 13 and 28.
+// The reader of drafts (document 02, requests 3 and 6): a sheet's draft, to be altered and written again,
+// or rows 1 to 13 and 28.
 ghost use Rattle.std.specs.Prelude.{◌≡◌};
 ghost use Rattle.draft_reader.specs.DraftReader.{drafted_from};
 
 use drafts::Draft;
 
-// The number of the refusal, or 0, and the draft: all zeros where the sheet is refused.
+// For the C interface: the number of the refusal, or 0, and the draft: all zeros where the sheet is refused.
 #[repr(C)]
 #[derive(Drop)]
 pub struct Drafted {

@@ -35,7 +35,8 @@ pub struct DraftPoint {
     pub wheel_out: u32,
 }
 
-// The C interface: of each array the first records are given, as many as its count says and at most all.
+// The C interface, with no heap: a count beside each array of fixed length, and no `Vec`.
+// Of each array the first records are given, as many as its count says and at most all.
 #[repr(C)]
 #[derive(Clone, Copy)]
 pub struct Draft {

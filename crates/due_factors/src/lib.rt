@@ -1,5 +1,6 @@
 #![tactic(auto)]
-// The factors that are due (document 01, 'The interval sheet'): how many, which is behind k others, and where one stands among them.
+// The factors that are due (document 01, 'The interval sheet'):
+// how many, which is behind k others, and where one stands among them.
 ghost use Rattle.std.specs.Prelude.{◌≡◌, ℕ, ◌++◌, ◌+◌, ◌≤◌, ◌<◌, length, get_or};
 ghost use Rattle.records.specs.Codes.{subject_code};
 ghost use Rattle.due_factors.specs.Due.{key, each, run, due_list, no_due, how_many, Asked};
@@ -8,6 +9,7 @@ ghost use Rattle.due_factors.specs.inner.Places.{Few, every, pars_on, offset, st
 use records::Subject;
 
 // How many zones, units, points and PARs a sheet has.
+// `Few` stays a clause: as a ghost field it would be asked of `Layout::counts_in`, which answers for any layout.
 #[derive(Clone, Copy)]
 pub struct Counts {
     pub zones: usize,
@@ -17,6 +19,7 @@ pub struct Counts {
 }
 
 // target: 0 the flowgate, k the k-th PAR. index: from 1.
+// subject stays a code, no `Subject`: the definition's list holds codes. target stays a number, as in the sheet.
 #[derive(Clone, Copy)]
 pub struct Due {
     pub target: usize,

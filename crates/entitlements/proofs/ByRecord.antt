@@ -1,5 +1,5 @@
 -- The list a record at a time: what the loops over its bytes go by.
-use Prim.Native.Nat.{ℕ, zero, suc, ◌+◌, ◌*◌, ◌/◌, ◌≤◌, ◌<◌}
+use Prim.Native.Nat.{ℕ, zero, suc, ◌+◌, ◌*◌, ◌≤◌, ◌<◌}
 use mathlib.Core.Path.{◌≡◌, refl, sym, ap, ◌∙◌}
 use mathlib.Core.Bool.{true, false, ◌||◌}
 use mathlib.Core.List.{List, [], ◌∷◌}
@@ -7,18 +7,13 @@ use native.Mathlib.Nat.{zero-add}
 use native.Mathlib.Numerals.{add-one}
 use native.Mathlib.Omega.{arith}
 use lib.ListN.{length, drop, get_or, drop_of_length-le}
-use lib.Seq.{drop-cons, drop-drop, take_all}
-use Rattle.std.proofs.Math.Nat.{mul-div_cancel_left}
-use Rattle.names.specs.Names.{name_at, same_list}
+use lib.Seq.{drop-cons, drop-drop}
 use Rattle.name_index.specs.inner.Index.{names_at}
-use Rattle.names.proofs.SameNames.{same_uneven, words_are}
-use Rattle.names.specs.inner.Words.{has_words}
-use Rattle.fields.specs.inner.Word.{be64}
-use Rattle.fields.proofs.Bytes.{Bytes}
+use Rattle.names.proofs.SameNames.{same_uneven}
 use Rattle.rows.proofs.NotMet.{neither}
 use Rattle.entitlements.specs.Entitlements.{Entry, body_length, record_length, entry_of, record_fault, any_fault, row14, entries_from, entries_of, look_up}
 use Rattle.entitlements.specs.inner.Steps.{first_names}
-use Rattle.entitlements.specs.Entitlements.{Found, Refused}
+use Rattle.entitlements.specs.Entitlements.{Refused}
 use Rattle.entitlements.proofs.RecordFault.{Kept, passes}
 
 fault_skip : (es : List (List ℕ)) (n : ℕ) (l : List ℕ) → any_fault es n l ≡ any_fault es 0 (drop n l)
@@ -101,28 +96,6 @@ whole_from es zero (k ∷ r) h e =
 pub passed_whole : (s : List ℕ) → row14 s ≡ false → Whole s
 passed_whole s e = record { whole = whole_from [] 0 s (omega arith) e ∙ zero-add _ }
 
--- the search
-module _ (s : List ℕ) (at : ℕ) (h : at < length s) where
-  look_here : (name : List ℕ) → same_list (name_at s (at + 1)) name ≡ true → look_up (entries_of (drop at s)) name ≡ Found (entry_of (drop (at + 1) s)).value
-  unfolding look_up entry_of
-  look_here name e = rw (entries_at s at h, e)
-
-  look_on : (name : List ℕ) → same_list (name_at s (at + 1)) name ≡ false → look_up (entries_of (drop at s)) name ≡ look_up (entries_of (drop (at + record_length) s)) name
-  unfolding look_up entry_of
-  look_on name e = rw (entries_at s at h, e)
-
-look_end : (s : List ℕ) (at : ℕ) (name : List ℕ) → length s ≤ at → look_up (entries_of (drop at s)) name ≡ Refused 15
-unfolding look_up entries_from
-look_end s at name h = rw (drop_of_length-le s {i = at} h)
-
--- the whole records are all there is
-pub look_whole_end : (s name : List ℕ) (n : ℕ) → row14 s ≡ false → length s / record_length ≤ n → look_up (entries_of (drop (record_length * n) s)) name ≡ Refused 15
-look_whole_end s name n h e =
-    let w = passed_whole s h in
-    let k = length (entries_of s) in
-    let q : length s / record_length ≡ k = rw w.whole (mul-div_cancel_left k (omega arith)) in
-    look_end s (record_length * n) name (omega (arith, w.whole, q))
-
 -- names of another length than 16
 look_uneven : {es : List (List ℕ)} {fs : List Entry} (name : List ℕ) → Pass es fs → (length name ≡ 16 → ⊥) → look_up fs name ≡ Refused 15
 unfolding look_up
@@ -131,16 +104,3 @@ look_uneven name (one {e = e} k p) u = rw (same_uneven e.name name (λ q. u (sym
 
 pub look_other_length : (s name : List ℕ) → row14 s ≡ false → (length name ≡ 16 → ⊥) → look_up (entries_of s) name ≡ Refused 15
 look_other_length s name h = look_uneven name (pass_from [] 0 s h)
-
--- names of 16 bytes, by their words
-module _ (s name : List ℕ) (bs : Bytes s) (bn : Bytes name) (at : ℕ) (h : at + record_length ≤ length s) (z : length name ≡ 16) where
-  words_found : has_words s (at + 1) (be64 name 0) (be64 name 8) ≡ same_list (name_at s (at + 1)) name
-  words_found =
-      let w : name_at name 0 ≡ name = take_all 16 name (omega arith) in
-      words_are s name bs bn (at + 1) 0 (omega arith) (omega arith) ∙ rw w
-
-  pub words_here : has_words s (at + 1) (be64 name 0) (be64 name 8) ≡ true → look_up (entries_of (drop at s)) name ≡ Found (entry_of (drop (at + 1) s)).value
-  words_here e = look_here s at (omega arith) name (sym words_found ∙ e)
-
-  pub words_on : has_words s (at + 1) (be64 name 0) (be64 name 8) ≡ false → look_up (entries_of (drop at s)) name ≡ look_up (entries_of (drop (at + record_length) s)) name
-  words_on e = look_on s at (omega arith) name (sym words_found ∙ e)

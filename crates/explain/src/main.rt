@@ -1,7 +1,7 @@
 #![tactic(auto)]
-// explain SHEET LIST: tells which record of the sheet refuses it and why, or the reason for the price, of the two files named,
-// or of sheet.bin and entitle.bin. It only reads, calls the proved function and writes; whatever fails is told on standard
-// error.
+// explain SHEET LIST: tells which record of the sheet refuses it and why, or the reason for the price, of the two
+// files named, or of sheet.bin and entitle.bin. It only reads, calls the proved function and writes; whatever fails
+// is told on standard error.
 ghost use Rattle.files.specs.Files.{Written};
 ghost use Rattle.explanation_report.specs.ExplanationReport.{explain_output};
 
@@ -27,7 +27,7 @@ fn print_explained<W: Write>(printed: &mut W, sheet: &[u8], list: &[u8]) -> Resu
 
 fn main(rt: HostRuntime) {
     let mut teller = Teller {
-        program: "explain",
+        program: b"explain",
         errors: rt.stderr(),
     };
     files::answer_pair(&rt, &mut teller, USAGE, |sheet, list| {

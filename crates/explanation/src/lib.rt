@@ -1,6 +1,6 @@
 #![tactic(auto)]
 // Which record refuses a sheet, and the reason for the price of an accepted one (document 02, request 7).
-ghost use Rattle.std.specs.Prelude.{◌≡◌, ◌≤◌, length};
+ghost use Rattle.std.specs.Prelude.{◌≡◌, ◌≤◌, leb, length};
 ghost use Rattle.rows.specs.Refusals.{number};
 ghost use Rattle.explanation.specs.Explanation.{behind_records, part_end, side_of, part_of, explained};
 ghost use Rattle.explanation.specs.Found.{found, reason_of};
@@ -20,8 +20,8 @@ pub enum Side {
     At,
 }
 
-// The settlement's refusal, or the reason for the price of an accepted interval; where the part of the sheet that holds the
-// offending record begins and ends.
+// The settlement's refusal, or the reason for the price of an accepted interval; where the part of the sheet that
+// holds the offending record begins and ends. No `Range`: it cannot be copied.
 #[derive(Clone, Copy)]
 pub struct Finding {
     pub reason: Result<Side, Refusal>,
@@ -40,6 +40,13 @@ fn side_of(flow: i64, entitlement: i64) -> Side
     }
 }
 
+// Whether the part is the kind byte alone: refusals 1 and 2.
+fn of_kind_byte(refusal: Refusal) -> bool
+    ensures { result ≡ leb (number refusal) 2 }
+{
+    matches!(refusal, Refusal::NoHead | Refusal::UnknownKind)
+}
+
 // Where the part that begins at a place ends.
 fn part_end(sheet: &[u8], refusal: Refusal, from: usize) -> usize
     requires { from ≤ length sheet.now }
@@ -49,7 +56,7 @@ fn part_end(sheet: &[u8], refusal: Refusal, from: usize) -> usize
     if left == 0 {
         return from;
     }
-    if refusal.number() <= 2 {
+    if of_kind_byte(refusal) {
         return from + 1;
     }
     let body = record_table::body_length(sheet[from]);
@@ -85,7 +92,7 @@ pub fn locate(sheet: &[u8], list: &[u8]) -> Finding
             to: part_end(sheet, refused.refusal, refused.place),
         },
         Ok(accepted) => {
-            let settled = settlement::settle_sheet(&accepted, list);
+            let settled = settlement::interval_or_refusal(&accepted, list);
             behind_records(sheet.len(), &settled)
         }
     }

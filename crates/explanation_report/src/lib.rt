@@ -1,5 +1,6 @@
 #![tactic(auto)]
-// What the program `explain` prints: which record refuses a sheet and why, or the reason for the price of an accepted one.
+// What the program `explain` prints: which record refuses a sheet and why, or the reason for the price of an accepted
+// one.
 ghost use Rattle.std.specs.Prelude.{◌≡◌, ◌+◌, ◌*◌, ◌≤◌, ◌++◌, length};
 ghost use Rattle.io.specs.Counts.{IsPrefixLen};
 ghost use Rattle.writers.specs.Written.{written};
@@ -17,6 +18,7 @@ use writers::{Text, put};
 // Room for whatever the program prints: 16 lines, of which the meaning takes five, the record eight.
 pub const OUTPUT_ROOM: usize = 16 * lines::LINE;
 
+// The word for a side. Bytes and no `Display`: what is printed is bytes.
 #[tactic(auto, unfolding(crate::specs::ExplanationReport::side_word, writers::specs::Text::ascii))]
 fn side_word(side: Side) -> &'static [u8]
     ensures value { result.now ≡ side_word (reason_of side) }
@@ -77,7 +79,8 @@ fn explained(sheet: &[u8], f: Finding) -> Text<OUTPUT_ROOM>
     }
 }
 
-// The program's standard output at the front of a buffer that has room for it. Returns its length.
+// The program's standard output at the front of a buffer that has room for it. Returns its length: a count and no
+// slice, as in `writers::put`.
 pub fn write_explanation(sheet: &[u8], list: &[u8], out: &mut [u8; OUTPUT_ROOM]) -> usize
     ensures value { result ≡ length (explain_output sheet.now list.now) }
     ensures out_after { out.new ≡ written (explain_output sheet.now list.now) out.old }

@@ -24,7 +24,8 @@ use listing::Printed;
 use sheet_writer::Written;
 use statement::Statement;
 
-// What the reader answers: 0 and the counts of an accepted sheet's records, or a refusal's number and the offending record's place.
+// What the reader answers: 0 and the counts of an accepted sheet's records, or a refusal's number and the offending
+// record's place. For C, so no `Result`.
 #[repr(C)]
 #[derive(Clone, Copy)]
 pub struct ReadAnswer {
@@ -39,7 +40,8 @@ pub struct ReadAnswer {
     pub circulations: usize,
 }
 
-// What the list says of a flowgate: 0 and the entitlement in tenths of a MW, or a refusal's number.
+// What the list says of a flowgate: 0 and the entitlement in tenths of a MW, or a refusal's number. For C, so no
+// `Result`.
 #[repr(C)]
 #[derive(Clone, Copy)]
 pub struct EntitlementAnswer {
@@ -47,7 +49,8 @@ pub struct EntitlementAnswer {
     pub value: i64,
 }
 
-// What an explanation says: the refusal's number or 0, the reason's code, and where the part begins and ends.
+// What an explanation says: the refusal's number or 0, the reason's code, and where the part begins and ends. For C,
+// so numbers and no `Finding`.
 #[repr(C)]
 #[derive(Clone, Copy)]
 pub struct ExplanationAnswer {
@@ -144,6 +147,7 @@ pub fn m2m_write_draft(draft: Draft, out: &mut [u8]) -> Written
     sheet_writer::write_draft(draft, out)
 }
 
+// A code, since C has no `Side`: `m2m.h` names them.
 fn reason_code(reason: Side) -> u8
     ensures { result ≡ reason_code (reason_of reason) }
 {

@@ -25,10 +25,12 @@ fn outside(low: usize, n: usize, high: usize) -> bool
 }
 
 // Outside ± most.
+#[tactic(auto, using(crate::proofs::SignedBounds::beyond_is))]
 fn beyond(most: u32, z: i32) -> bool
     ensures { result ≡ beyond most z }
 {
-    most < z.unsigned_abs()
+    let most = i64::from(most);
+    !(-most..=most).contains(&i64::from(z))
 }
 
 pub fn factor_beyond(z: i16) -> bool
@@ -37,6 +39,7 @@ pub fn factor_beyond(z: i16) -> bool
     beyond(MOST_FACTOR, i32::from(z))
 }
 
+// Here and below, a code is the sheet's byte: it may be none of those that are known.
 pub fn no_rto(code: u8) -> bool
     ensures { result ≡ no_rto code }
 {

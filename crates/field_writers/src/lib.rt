@@ -1,5 +1,6 @@
 #![tactic(auto)]
-// Writers of fields. Each fills the front of the buffer that it is lent, and returns how many bytes these are.
+// Writers of fields. Each fills the front of the buffer that it is lent, and returns how many bytes these are:
+// a count and no slice, so that the buffer can be lent on.
 ghost use Rattle.std.specs.Prelude.{◌≡◌, List, ℕ, ◌∷◌, [], ◌≤◌, length};
 ghost use Rattle.writers.specs.inner.Wrote.{Wrote};
 ghost use Rattle.field_writers.specs.FieldBytes.{bytes16, bytes32, signed16, signed32};
@@ -68,7 +69,7 @@ impl Field for i32 {
     }
 }
 
-// The kind byte, and the name behind it.
+// The kind byte, and the name behind it. A byte and no `Kind`: fields know no records.
 #[tactic(auto, using(crate::proofs::Records::first))]
 pub fn put_front(kind: u8, name: [u8; 16], out: &mut [u8]) -> usize
     requires { 17 ≤ length out.old }

@@ -28,9 +28,9 @@ pub fn argument_count(env: &impl Env) -> usize {
     (0..usize::MAX).find(past).unwrap_or(usize::MAX)
 }
 
-// The file name that argument i is: how many bytes stand at the front of the buffer. An argument that is too long fills the
-// buffer; with 4,096 bytes that is too long for a path too, and opening it fails with this reason.
-// A count and no slice: where a slice of the buffer is handed back, a contract can't say what the buffer holds.
+// The file name that argument i is: how many bytes stand at the front of the buffer. An argument that is too long
+// fills the buffer; with 4,096 bytes that is too long for a path too, and opening it fails with this reason. A count
+// and no slice: where a slice of the buffer is handed back, a contract can't say what the buffer holds.
 pub fn argument(env: &impl Env, i: usize, name: &mut [u8]) -> usize
     ensures { IsPrefixLen result name.new }
 {
@@ -59,9 +59,9 @@ fn read_opened<F: Read + Drop>(opened: io::Result<F>, buf: &mut [u8]) -> io::Res
     Ok(transfers::read_all(&mut file, buf)?)
 }
 
-impl<E: Write> Teller<E> {
-    // Reads the file of this name: how many bytes stand at the front of the buffer. One that can't be opened or read whole
-    // counts as empty, and `program: name: why` is told.
+impl<'a, E: Write> Teller<'a, E> {
+    // Reads the file of this name: how many bytes stand at the front of the buffer, no slice, as in `argument`. One
+    // that can't be opened or read whole counts as empty, and `program: name: why` is told.
     pub fn load<R: Files>(&mut self, rt: &R, name: &[u8], buf: &mut [u8]) -> usize
         ensures loaded { Loaded (length buf.old) result }
         ensures prefix_len { IsPrefixLen result buf.new }
@@ -85,8 +85,8 @@ pub fn send<W: Write>(writer: &mut W, bytes: &[u8]) -> Result<(), Errno>
     Ok(())
 }
 
-// Has a regular file that was written to stored. Some file systems tell only then that the bytes are lost. What is no such
-// file, or does not open again, has nothing to tell.
+// Has a regular file that was written to stored. Some file systems tell only then that the bytes are lost. What is no
+// such file, or does not open again, has nothing to tell.
 fn stored<R: Files>(rt: &R, path: &str) -> io::Result<()> {
     let is_file = fs::metadata(rt, path).is_ok_and(|metadata| metadata.is_file());
     if !is_file {
@@ -101,7 +101,7 @@ fn stored<R: Files>(rt: &R, path: &str) -> io::Result<()> {
     }
 }
 
-impl<E: Write> Teller<E> {
+impl<'a, E: Write> Teller<'a, E> {
     // Has what was written to a file stored; where that fails, `program: name: why` is told.
     pub fn finish<R: Files>(&mut self, rt: &R, name: &[u8], path: &str) {
         if let Err(error) = stored(rt, path) {

@@ -41,22 +41,21 @@ fn tell_line<E: Write>(errors: &mut E, what: &[u8], error: &io::Error) {
 
 // Tells what failed, on a stream of errors, by the program's name.
 #[derive(Drop)]
-pub struct Teller<E> {
-    pub program: &'static str,
+pub struct Teller<'a, E> {
+    pub program: &'a [u8],
     pub errors: E,
 }
 
-impl<E: Write> Teller<E> {
-    // `program: what: why`, the reason being the error's text. Names that are too long for the line are told without the
-    // program's.
+impl<'a, E: Write> Teller<'a, E> {
+    // `program: what: why`, the reason being the error's text. Names that are too long for the line are told without
+    // the program's.
     pub fn tell(&mut self, what: &[u8], error: &io::Error) {
-        let program = self.program.as_bytes();
-        if program.len() > 64 || what.len() > 4096 {
+        if self.program.len() > 64 || what.len() > 4096 {
             tell_line(&mut self.errors, what, error);
             return;
         }
         let mut line = [0u8; 4162];
-        let n = put_told(program, what, &mut line);
+        let n = put_told(self.program, what, &mut line);
         tell_line(&mut self.errors, &line[..n], error);
     }
 }

@@ -1,7 +1,8 @@
 #![tactic(auto)]
-// The generation-to-load routine in Schedule D's order: loads (5.2), generation (5.3), then the flow (5.4); document 01's steps 1, 2 and 3.
-// It is read beside the schedule: each equation's place and names stand where it is followed. Powers are tenths of a MW, flows watts.
-// Loads and generation are written out alike, each beside its own equations: one function over both would have no place in the schedule.
+// The generation-to-load routine in Schedule D's order: loads (5.2), generation (5.3), then the flow (5.4); document
+// 01's steps 1, 2 and 3. It is read beside the schedule: each equation's place and names stand where it is followed.
+// Powers are tenths of a MW, flows watts. Loads and generation are written out alike, each beside its own equations:
+// one function over both would have no place in the schedule.
 mod served;
 
 ghost use Rattle.std.specs.Prelude.{◌≡◌, ◌≤◌, pos, nat_abs, ◌-ℤ◌, ◌*ℤ◌, ◌<ℤ◌};
@@ -14,7 +15,8 @@ pub use served::Served;
 use sheet::AcceptedSheet;
 
 // 5.2 Compute RTO Load Served by RTO Generation. Step 1.
-// zone_loads has zeros behind the sheet's zones. gross_load is what row 16 judges: loads with losses.
+// zone_loads has zeros behind the sheet's zones, as the definition has them: memory is fixed, and their number stands
+// in the sheet's layout. gross_load is what row 16 judges: loads with losses.
 #[derive(Clone, Copy)]
 pub struct LoadServed {
     pub zone_loads: [i64; 32],
@@ -29,8 +31,8 @@ pub fn loads(sheet: &AcceptedSheet<'_>) -> LoadServed
     // 5.2, first equation: Zonal_Total_Load = Load + Losses, for each zone
     let total_loads = zone_sums::loads(sheet);
     let gross_load = total_loads.total(sheet.layout.zones);
-    // 5.2, second: Zonal_Reduced_Load = Zonal_Total_Load − Import_Schedules of the scheduled lines that sink in the zone.
-    // Document 01 calls it zone load.
+    // 5.2, second: Zonal_Reduced_Load = Zonal_Total_Load − Import_Schedules of the scheduled lines that sink in the
+    // zone. Document 01 calls it zone load.
     let imports = zone_sums::imports(sheet);
     let zone_loads = total_loads.reduced(&imports, sheet.layout.zones);
     // 5.2, third: RTO_Net_Load = the sum of Zonal_Reduced_Load
@@ -46,7 +48,7 @@ pub fn loads(sheet: &AcceptedSheet<'_>) -> LoadServed
 }
 
 // 5.3 Compute RTO Generation Serving RTO Load. Step 2.
-// zone_generation has zeros behind the sheet's zones. gross_output is document 01's G.
+// zone_generation has zeros behind the sheet's zones, as zone_loads has. gross_output is document 01's G.
 #[derive(Clone, Copy)]
 pub struct GenerationServing {
     pub zone_generation: [i64; 32],
@@ -87,7 +89,8 @@ pub struct Balance {
 }
 
 // 5.4 Compute the RTO GTL for all M2M Flowgates. Step 3, for a target: the flowgate, 0, or a PAR.
-// RTO_GTL = the sum of Gen_Final × (GSF − RTO_LSF). Document 01 rounds two quotients on the way, each after its sum; the remainders are theirs.
+// RTO_GTL = the sum of Gen_Final × (GSF − RTO_LSF). Document 01 rounds two quotients on the way, each after its sum;
+// the remainders are theirs.
 #[derive(Clone, Copy)]
 pub struct GenerationToLoad {
     pub weighted_output: i64,
@@ -99,6 +102,8 @@ pub struct GenerationToLoad {
     pub second_remainder: i64,
 }
 
+// target: a number, as in the sheet: 0 the flowgate, k the k-th PAR. A struct of a sheet and its target would be made
+// anew for each PAR, which is no plainer.
 pub fn flow(served: &Served<'_>, target: usize) -> GenerationToLoad
     requires { target ≤ served.now.sheet.layout.pars }
     ensures { result ≡ flow_for (content_of served.now.sheet.bytes.now) target }

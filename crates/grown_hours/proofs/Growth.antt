@@ -17,7 +17,7 @@ use Rattle.hours.specs.declared.Hour.{Hour}
 use Rattle.hour_cells.specs.Cells.{seconds_to, seconds_of}
 use Rattle.hour_cells.proofs.Cells.{held_all}
 use Rattle.hours.proofs.Room.{Admits, admits}
-use Rattle.hours.specs.Hour.{opened, is_other, hour_row, refusal_of, with_interval, added}
+use Rattle.hours.specs.Hour.{is_other, hour_row, refusal_of, with_interval, added}
 use Rattle.grown_hours.specs.Grown.{grown, hour_of, taken_by, taken_of, seconds_together}
 
 -- ---- what an hour keeps of an interval

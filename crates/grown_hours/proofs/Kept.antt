@@ -8,12 +8,11 @@ use lib.IntN.{ℤ, pos, neg_ℤ, ◌+ℤ◌}
 use Rattle.integers.proofs.Linear.{zarith}
 use Rattle.integers.proofs.Tactic.{zi, zo}
 use Rattle.records.specs.Codes.{nyiso}
-use Rattle.accuracy.specs.Fraction.{Near}
 use Rattle.settlement.specs.Settled.{Inputs}
 use Rattle.hours.specs.declared.Hour.{Hour}
 use Rattle.hours.specs.declared.Totals.{Totals}
 use Rattle.hours.specs.Totals.{hour_amount, totals_of}
-use Rattle.grown_hours.specs.Grown.{hour_of, taken_of, exact_together}
+use Rattle.grown_hours.specs.Grown.{taken_of}
 use Rattle.grown_hours.specs.Promise.{Sums, Promise}
 use Rattle.grown_hours.proofs.Growth.{rto_of, laid, laid_seconds, Fit, hour_laid, taken_fit}
 use Rattle.grown_hours.proofs.Sums.{laid_amount, nyiso_sum, pjm_sum, near_sum}

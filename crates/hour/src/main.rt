@@ -1,10 +1,10 @@
 #![tactic(auto)]
-// hour LIST SHEET..: adds the intervals of the sheets to an hour, in order, each settled against the list; prints each sheet's
-// amount or refusal, and then the hour. It only reads, calls the proved functions and writes; whatever fails is told on
-// standard error.
+// hour LIST SHEET..: adds the intervals of the sheets to an hour, in order, each settled against the list; prints
+// each sheet's amount or refusal, and then the hour. It only reads, calls the proved functions and writes; whatever
+// fails is told on standard error.
 use files::Teller;
 use hours::Hour;
-use std::io::{Error, Write};
+use std::io::Write;
 use transfers::Errno;
 
 const USAGE: &str = "usage: hour LIST SHEET..\n\
@@ -14,6 +14,7 @@ const USAGE: &str = "usage: hour LIST SHEET..\n\
     empty. Whatever fails is told on standard error; the exit status is always 0.\n";
 
 // The hour after a sheet whose line was printed. A large buffer holds more than the longest sheet and its next record.
+// Host and teller are two parameters, here and below: `main` lends the one, and the other is changed.
 fn add_file<E: Write>(
     rt: &HostRuntime,
     teller: &mut Teller<E>,
@@ -21,10 +22,8 @@ fn add_file<E: Write>(
     argument: usize,
     list: &[u8],
 ) -> Result<Hour, Errno> {
-    let mut name = io::buffer();
-    let name_length = files::argument(rt, argument, &mut name);
     let mut sheet = io::large_buffer();
-    let length = teller.load(rt, &name[..name_length], &mut sheet);
+    let length = teller.load_argument(rt, argument, &mut sheet);
     let mut out = [0u8; hour_report::SHEET_ROOM];
     let told = hour_report::add_sheet(hour, &sheet[..length], list, &mut out);
     files::send(&mut rt.stdout(), &out[..told.length])?;
@@ -53,19 +52,15 @@ fn add_files<E: Write>(
 
 // A large buffer holds more than the longest list and a byte.
 fn hour_of<E: Write>(rt: &HostRuntime, teller: &mut Teller<E>, count: usize) {
-    let mut name = io::buffer();
-    let name_length = files::argument(rt, 1, &mut name);
     let mut list = io::large_buffer();
-    let length = teller.load(rt, &name[..name_length], &mut list);
-    match add_files(rt, teller, count, &list[..length]) {
-        Ok(()) => teller.finish(rt, b"standard output", files::STANDARD_OUTPUT),
-        Err(errno) => teller.tell(b"standard output", &Error::from(errno)),
-    }
+    let length = teller.load_argument(rt, 1, &mut list);
+    let printed = add_files(rt, teller, count, &list[..length]);
+    teller.finish_output(rt, printed);
 }
 
 fn main(rt: HostRuntime) {
     let mut teller = Teller {
-        program: "hour",
+        program: b"hour",
         errors: rt.stderr(),
     };
     let count = files::argument_count(&rt);

@@ -9,6 +9,7 @@ pub const CELLS: usize = 60;
 // No interval's amount is further from zero.
 const MOST_AMOUNT: i64 = 2_000_000_000_000;
 
+// A count, since an hour is C's: how many of its cells are filled, or more than there are.
 #[tactic(auto, unfolding(crate::specs::Cells::held))]
 fn held(count: usize) -> usize
     ensures { (result ≡ held count) × (result ≤ 60) }
@@ -24,6 +25,7 @@ fn cell_of(x: i64) -> i64
     x.clamp(-MOST_AMOUNT, MOST_AMOUNT)
 }
 
+// A loop: `sums::sum_to` gives an i64, and what is promised here fits a u32.
 #[tactic(auto, using(crate::proofs::Cells::seconds_zero), unfolding(crate::specs::Cells::seconds_of))]
 pub fn seconds_of(seconds: [u16; CELLS], count: usize) -> u32
     ensures { (result ≡ seconds_of seconds count) × (result ≤ 3932100) }
@@ -35,13 +37,8 @@ pub fn seconds_of(seconds: [u16; CELLS], count: usize) -> u32
     sum
 }
 
-#[tactic(auto, unfolding(crate::specs::Cells::amount_of))]
 pub fn amount_of(amounts: [i64; CELLS], count: usize) -> i64
     ensures { result ≡ amount_of amounts count }
 {
-    let mut sum: i64 = 0;
-    for x in &amounts[..held(count)] {
-        sum += cell_of(*x);
-    }
-    sum
+    sums::sum_to(held(count), |i| cell_of(amounts[i]))
 }

@@ -18,14 +18,15 @@ pub const SHEET_ROOM: usize = lines::LINE;
 
 pub const HOUR_ROOM: usize = 4 * lines::LINE;
 
-// The hour after a sheet, and how many bytes of the output buffer are the sheet's line.
+// The hour after a sheet, and how many bytes of the output buffer are the sheet's line. A length and no slice:
+// where a slice of the buffer is handed back, a contract can't say what the buffer holds.
 #[derive(Clone, Copy)]
 pub struct Told {
     pub hour: Hour,
     pub length: usize,
 }
 
-// A sheet's line: its amount, or the refusal.
+// A sheet's line: its amount, or the refusal. By number, 0 for none, as an hour that changed has it for C.
 #[tactic(auto, unfolding(crate::specs::HourReport::sheet_line, writers::specs::Text::ascii))]
 fn sheet_line(refusal: u8, amount: i64) -> Text<SHEET_ROOM>
     ensures { result ≡ sheet_line refusal amount }
@@ -66,7 +67,8 @@ pub fn add_sheet(hour: Hour, sheet: &[u8], list: &[u8], out: &mut [u8; SHEET_ROO
     Told { hour, length }
 }
 
-// The lines of an hour at the front of the output buffer. Returns their length.
+// The lines of an hour at the front of the output buffer. Returns their length: a count and no slice, as in
+// `writers::put`.
 pub fn write_hour(hour: Hour, out: &mut [u8; HOUR_ROOM]) -> usize
     ensures value { result ≡ length (hour_lines (totals_of hour)) }
     ensures out_after { out.new ≡ written (hour_lines (totals_of hour)) out.old }

@@ -10,8 +10,9 @@ use records::Rto;
 use rows::{Refusal, row};
 use settlement::Interval;
 
-// The amounts and seconds of its intervals stand in the first `count` cells. The cells behind them are zero, and so are an
-// empty hour's name and Monitoring RTO: two hours are the same where all of this is.
+// The amounts and seconds of its intervals stand in the first `count` cells. The cells behind them are zero, and so
+// are an empty hour's name and Monitoring RTO: two hours are the same where all of this is. C keeps it between calls:
+// so two arrays and no array of structs, a count and no slice, a code and no `Rto`.
 #[repr(C)]
 #[derive(Clone, Copy)]
 pub struct Hour {
@@ -22,7 +23,7 @@ pub struct Hour {
     monitoring_rto: u8,
 }
 
-// 0 and the hour with a change, or a refusal's number and the hour as it was.
+// 0 and the hour with a change, or a refusal's number and the hour as it was. C is handed it, so no `Result`.
 #[repr(C)]
 #[derive(Clone, Copy)]
 pub struct Changed {
@@ -76,7 +77,7 @@ impl Hour {
         let seconds = hour_cells::seconds_of(self.seconds, self.count);
         row(
             Refusal::HourTooLong,
-            seconds + i.seconds as u32 > Self::SECONDS,
+            seconds + u32::from(i.seconds) > Self::SECONDS,
         )?;
         row(Refusal::OtherInterval, self.is_other(i))
     }
@@ -94,21 +95,26 @@ impl Hour {
         self
     }
 
+    // The hour as it was, beside a refusal's number: 24 to 26, or the settlement's, which is a number as C has it.
+    fn refusing(self, refusal: u8) -> Changed
+        ensures { result ≡ record { refusal = refusal; hour = self } }
+    {
+        Changed {
+            refusal,
+            hour: self,
+        }
+    }
+
     // The hour with a settled interval, or the refusal's number beside the hour as it was.
-    pub fn take(mut self, i: Interval) -> Changed
+    #[tactic(auto, unfolding(crate::specs::Hour::added, crate::specs::Hour::refusal_of), using(rows::proofs::Refusing::refuses))]
+    pub fn take(self, i: Interval) -> Changed
         ensures { result ≡ added self i }
     {
         if i.statement.refusal != 0 {
-            return Changed {
-                refusal: i.statement.refusal,
-                hour: self,
-            };
+            return self.refusing(i.statement.refusal);
         }
         match self.row_for(&i) {
-            Err(refusal) => Changed {
-                refusal: refusal.number(),
-                hour: self,
-            },
+            Err(refusal) => self.refusing(refusal.number()),
             Ok(()) => Changed {
                 refusal: 0,
                 hour: self.with_interval(&i),
@@ -117,7 +123,7 @@ impl Hour {
     }
 
     // The hour with the interval of a sheet and a list, or the refusal's number beside the hour as it was.
-    pub fn add(mut self, sheet: &[u8], list: &[u8]) -> Changed
+    pub fn add(self, sheet: &[u8], list: &[u8]) -> Changed
         ensures { result ≡ added self (interval (inputs sheet.now list.now)) }
     {
         let i = settlement::settle_interval(sheet, list);

@@ -39,7 +39,7 @@ pub struct Layout {
 }
 
 impl Layout {
-    pub fn count_of(self, kind: Kind) -> usize
+    pub fn count(self, kind: Kind) -> usize
         ensures { result ≡ count self (code kind) }
     {
         match kind {
@@ -83,18 +83,30 @@ impl Layout {
         }
     }
 
-    // Where the records of a kind begin.
+    // Where the records of a kind begin: behind those of the kinds below.
+    // `extent` stays a clause: as a ghost field it would be asked of whoever makes a layout.
+    #[tactic(auto, unfolding(crate::specs::inner::Places::first_of), using(crate::proofs::Places::extent_is))]
     fn first_of(self, kind: Kind) -> usize
         requires { extent self < 2 ^ 64 }
         ensures { result ≡ first_of self (code kind) }
     {
-        let mut first = 0;
-        for below in 1..kind.code() {
-            if let Ok(below) = Kind::try_from(below) {
-                first += size_of(below) * self.count_of(below);
-            }
+        let zones = size_of(Kind::Head) * self.heads;
+        let units = zones + size_of(Kind::Zone) * self.zones;
+        let points = units + size_of(Kind::Unit) * self.units;
+        let pars = points + size_of(Kind::Point) * self.points;
+        let factors = pars + size_of(Kind::Par) * self.pars;
+        let paths = factors + size_of(Kind::Factor) * self.factors;
+        let circulations = paths + size_of(Kind::Path) * self.paths;
+        match kind {
+            Kind::Head => 0,
+            Kind::Zone => zones,
+            Kind::Unit => units,
+            Kind::Point => points,
+            Kind::Par => pars,
+            Kind::Factor => factors,
+            Kind::Path => paths,
+            Kind::Circulation => circulations,
         }
-        first
     }
 
     // Where the i-th record of a kind begins, from 0.
@@ -113,6 +125,31 @@ impl Layout {
     }
 }
 
+// How many records there are of the kind that a byte names, and 0 where it names none.
+// By byte and no `Kind`, here and below: what a byte of no kind gives is promised too.
+pub fn count_of(l: Layout, kind: u8) -> usize
+    ensures { result ≡ count l kind }
+{
+    match Kind::try_from(kind) {
+        Ok(known) => l.count(known),
+        Err(_) => 0,
+    }
+}
+
+// One record more of the kind that a byte names, and none where it names none.
+#[tactic(auto, unfolding(crate::specs::inner::Places::counted))]
+pub fn counted(l: Layout, kind: u8) -> Layout
+    requires { extent l < 2 ^ 64 }
+    ensures { result ≡ counted l kind }
+{
+    let Ok(known) = Kind::try_from(kind) else {
+        return l;
+    };
+    let mut more = l;
+    more.add(known);
+    more
+}
+
 fn size_of(kind: Kind) -> usize
     ensures { (result ≡ size (code kind)) × (result ≤ most_size) }
 {
@@ -128,12 +165,13 @@ pub fn body_at(s: &[u8], l: Layout, kind: Kind, i: usize) -> &[u8]
     &s[from..from + kind.body_length()]
 }
 
-// Whether the record at `at`, behind the others of its kind, has the name of one of them. The table, which holds their names, then holds its name too.
+// Whether the record at `at`, behind the others of its kind, has the name of one of them.
+// The table, which holds their names, then holds its name too.
 pub fn repeated(s: &[u8], l: Layout, kind: Kind, at: usize, table: &mut [u16]) -> bool
     requires { ((kind_of (code kind)).named ≡ true) × (at ≡ start_of l (code kind) (count l (code kind))) × (at + size (code kind) ≤ length s.now) × Allowed l × Listed s.now l (code kind) table.old }
     ensures { (result ≡ repeats (content_at s.now l) (code kind) (body_in (code kind) (drop (at + 1) s.now))) × Listed s.now (counted l (code kind)) (code kind) table.new × (table.new ≡ with_next s.now (run_of l (code kind)) table.old) }
 {
-    let count = l.count_of(kind);
+    let count = l.count(kind);
     let stride = size_of(kind);
     let run = Run {
         first: at - stride * count + 1,

@@ -53,6 +53,7 @@ pub fn put_gtl<const N: usize>(text: &mut Text<N>, flow: i64, first: i64, second
     put_line(text, b" ", second);
 }
 
+// By number, as a statement has its refusal for C.
 #[tactic(auto, unfolding(printout::specs::Listing::refusal_line, writers::specs::Text::ascii))]
 pub fn put_refusal<const N: usize>(text: &mut Text<N>, n: u8)
     requires { length text.old + line_room ≤ N }

@@ -1,6 +1,6 @@
 #![tactic(auto)]
 // The printed statement (document 01, 'The printed statement').
-ghost use Rattle.std.specs.Prelude.{◌≡◌};
+ghost use Rattle.std.specs.Prelude.{◌≡◌, []};
 ghost use Rattle.io.specs.Counts.{IsPrefixLen};
 ghost use Rattle.writers.specs.inner.Wrote.{Wrote};
 ghost use Rattle.printout.specs.Listing.{listing, shown};
@@ -8,13 +8,16 @@ ghost use Rattle.listing.specs.Buffer.{printed, buffer};
 
 use line_groups::{put_flows, put_payment, put_settled};
 use lines::{put_flowgate, put_gtl, put_refusal};
+use rows::Refusal;
 use statement::{Statement, refused};
 use writers::{Text, put};
 
-// Room for every listing and every refusal's line, whatever the figures are: 16 lines, of which the name takes two and `gtl` three.
+// Room for every listing and every refusal's line, whatever the figures are: 16 lines, of which the name takes two
+// and `gtl` three.
 pub const ROOM: usize = 16 * lines::LINE;
 
 // What printing leaves: the statement after row 23, and how many bytes of the output buffer were printed.
+// C is handed it, so no `Result`: the refusal is the statement's number.
 #[repr(C)]
 #[derive(Clone, Copy)]
 pub struct Printed {
@@ -23,16 +26,15 @@ pub struct Printed {
 }
 
 // The listing of a statement.
-fn listing(s: &Statement) -> Text<ROOM>
-    ensures { result ≡ listing s.now }
+fn put_listing(text: &mut Text<ROOM>, s: &Statement)
+    requires { text.old ≡ [] }
+    ensures { text.new ≡ listing s.now }
 {
-    let mut text = Text::new();
-    put_flowgate(&mut text, &s.name);
-    put_gtl(&mut text, s.gtl, s.first_remainder, s.second_remainder);
-    put_flows(&mut text, s);
-    put_settled(&mut text, s);
-    put_payment(&mut text, s);
-    text
+    put_flowgate(text, &s.name);
+    put_gtl(text, s.gtl, s.first_remainder, s.second_remainder);
+    put_flows(text, s);
+    put_settled(text, s);
+    put_payment(text, s);
 }
 
 // The listing, or the one line of a refusal.
@@ -40,16 +42,17 @@ fn listing(s: &Statement) -> Text<ROOM>
 fn shown(s: &Statement) -> Text<ROOM>
     ensures { result ≡ shown s.now }
 {
-    if s.refusal == 0 {
-        return listing(s);
-    }
     let mut text = Text::new();
-    put_refusal(&mut text, s.refusal);
+    if s.refusal == 0 {
+        put_listing(&mut text, s);
+    } else {
+        put_refusal(&mut text, s.refusal);
+    }
     text
 }
 
-// Prints the listing of an accepted statement at the front of the output buffer. Where the buffer is shorter, the statement
-// is refused by row 23. On a refusal, also one that the statement came with, the buffer stays as before.
+// Prints the listing of an accepted statement at the front of the output buffer. Where the buffer is shorter, the
+// statement is refused by row 23. On a refusal, also one that the statement came with, the buffer stays as before.
 pub fn print(s: Statement, out: &mut [u8]) -> Printed
     ensures value { result ≡ printed s out.old }
     ensures out_after { out.new ≡ buffer s out.old }
@@ -61,11 +64,12 @@ pub fn print(s: Statement, out: &mut [u8]) -> Printed
             length: 0,
         };
     }
-    let text = listing(&s);
+    let mut text = Text::new();
+    put_listing(&mut text, &s);
     let bytes = text.as_slice();
     if out.len() < bytes.len() {
         return Printed {
-            statement: refused(23),
+            statement: refused(Refusal::OutputTooShort.number()),
             length: 0,
         };
     }
@@ -75,7 +79,8 @@ pub fn print(s: Statement, out: &mut [u8]) -> Printed
     }
 }
 
-// What the program prints of a statement, at the front of a buffer that has room for it. Returns its length.
+// What the program prints of a statement, at the front of a buffer that has room for it. Returns its length: a count
+// and no slice, as in `writers::put`.
 pub fn show(s: Statement, out: &mut [u8; ROOM]) -> usize
     ensures { Wrote (shown s) out.old out.new result }
 {

@@ -9,9 +9,7 @@ ghost use Rattle.market_flow.specs.inner.Flow.{par_share, flow_of};
 
 use generation_to_load::Served;
 use records::{Class, Rto, Subject};
-
-// The flowgate as a target; the PAR of index i is target i + 1.
-const FLOWGATE: usize = 0;
+use weighted_sums::FLOWGATE;
 
 // gtl, parallel and shadow are the flowgate's; common and noncommon are the redirects.
 #[derive(Clone, Copy)]

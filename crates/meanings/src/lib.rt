@@ -6,7 +6,8 @@ ghost use Rattle.meanings.specs.inner.Tables.{meaning_room, word_room};
 
 use texts::text_of;
 
-// What a refusal means: where it is met.
+// What a refusal means: where it is met. By number: any byte has an answer, one that is no refusal's the empty text.
+// One byte string, here and below, and no `match` or array of texts: each of those has facts of its own to prove.
 pub fn meaning(refusal: u8) -> &'static [u8]
     ensures value { result.now ≡ meaning refusal }
     ensures room { length result.now ≤ meaning_room }
@@ -45,7 +46,7 @@ pub fn meaning(refusal: u8) -> &'static [u8]
     )
 }
 
-// The word for a kind: the one for unknown kinds is the first.
+// The word for a kind: the one for unknown kinds is the first. By a record's first byte, which may be any: so no enum.
 pub fn kind_word(kind: u8) -> &'static [u8]
     ensures value { result.now ≡ kind_word kind }
     ensures room { length result.now ≤ word_room }

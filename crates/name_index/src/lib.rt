@@ -5,9 +5,10 @@ ghost use Rattle.std.specs.Prelude.{◌≡◌, ◌+◌, ◌*◌, ◌≤◌, ◌<
 ghost use Rattle.names.specs.Names.{name_at, seen_before};
 ghost use Rattle.name_index.specs.inner.Index.{hash_of, hash_at, names_at, place_of, Indexed, with_hash, with_next};
 
-// Names that stand one behind the other: `count` of them, the first at `first`, each `stride` bytes behind the one before.
+// Names that stand one behind the other:
+// `count` of them, the first at `first`, each `stride` bytes behind the one before.
 // A table holds them behind `base` others that no longer count; its hashes are up to `mask`.
-// The bytes and the table stay parameters: both are the caller's, so that a struct of the three would be made for each call.
+// The bytes and the table stay parameters: both are the caller's, and a struct of all would be made for each call.
 #[derive(Clone, Copy)]
 pub struct Run {
     pub first: usize,
@@ -37,7 +38,8 @@ fn hash_at(s: &[u8], at: usize, mask: usize) -> usize
     hash(fields::be64_at(s, at), fields::be64_at(s, at + 8), mask)
 }
 
-// Whether the name at `at`, which stands behind the run and whose hash is h, is one of the run: only those of its hash are looked at.
+// Whether the name at `at`, which stands behind the run and whose hash is h, is one of the run.
+// Only those of its hash are looked at.
 #[tactic(auto, using(crate::proofs::Table::searching))]
 fn listed(s: &[u8], at: usize, run: Run, h: usize, table: &[u16]) -> bool
     requires { (at ≡ place_of run run.count) × (at + 16 ≤ length s.now) × (h ≡ hash_at run.mask s.now at) × Indexed s.now run table.now }

@@ -1,6 +1,7 @@
 -- Bounds: nothing on the way to the amount leaves an i64.
 use Prim.Native.Nat.{◌≤◌}
-use mathlib.Core.Path.{◌≡◌}
+use mathlib.Core.Path.{◌≡◌, refl}
+use native.Mathlib.Omega.{arith}
 use lib.Dec.{lit<}
 use lib.IntN.{ℤ, pos, nat_abs, ◌-ℤ◌, ◌*ℤ◌}
 use mir.Syntax.{w64}
@@ -8,7 +9,7 @@ use mir.Val.{to_z}
 use Rattle.integers.proofs.Machine.{Op, rd, num, num_is, num_u, mul, sub}
 use Rattle.records.specs.declared.Head.{Head}
 use Rattle.record_rows.specs.inner.Valid.{HeadFits}
-use Rattle.figures.specs.Payment.{price}
+use Rattle.figures.specs.Payment.{in_watts, price}
 use Rattle.figures.proofs.Payments.{price_within}
 use Rattle.payment.specs.inner.Payment.{Payable}
 
@@ -19,6 +20,11 @@ module _ (h : Head) (v : HeadFits h) (d : ℤ) (b : nat_abs d ≤ 20000000000) w
 
   pub second_product : (p : ℤ) → p ≡ price h d → Op (rd (rd d *ℤ rd p) *ℤ to_z w64 h.seconds) (d *ℤ price h d *ℤ pos h.seconds) 7200000000000000000
   second_product p e = mul (first_product p e).num (num_u _ 900 v.seconds_most (lit< tt)) (lit< tt)
+
+-- an entitlement in watts
+pub in_watts_lem : (e : ℤ) → nat_abs e ≤ 100000 → Op (rd e *ℤ pos 100000) (in_watts e) 10000000000
+unfolding in_watts
+in_watts_lem e h = mul {B = 100000} (num e 100000 h (lit< tt)) (record { is = refl; abs = omega arith }) (lit< tt)
 
 -- the difference
 pub gap : (h : Head) (flow watts : ℤ) → Payable h flow watts → Op (rd flow -ℤ rd watts) (flow -ℤ watts) 20000000000

@@ -10,7 +10,8 @@ pub struct Quotient {
     pub remainder: i64,
 }
 
-// Whether the quotient m toward zero goes one further: size is what it leaves, rest what that lacks of the divisor. Halves go to even.
+// Whether the quotient m toward zero goes one further: size is what it leaves, rest what that lacks of the divisor.
+// Halves go to even.
 #[tactic(auto, unfolding(crate::specs::Rounded::goes_away))]
 fn goes_away(m: u64, size: u64, rest: u64) -> bool
     ensures { result ≡ goes_away m size rest }
@@ -22,7 +23,8 @@ fn goes_away(m: u64, size: u64, rest: u64) -> bool
     }
 }
 
-// The step from the quotient q toward zero to the nearest. Sizes are compared with what they lack of d, since twice a size may not fit.
+// The step from the quotient q toward zero to the nearest.
+// Sizes are compared with what they lack of d, since twice a size may not fit.
 #[tactic(auto, using(crate::proofs::Step::signum_steps, crate::proofs::Step::stays))]
 fn step_of(q: i64, r: i64, d: i64) -> i64
     requires { (pos 0 <ℤ d) × (nat_abs r < nat_abs d) }

@@ -9,6 +9,7 @@ use lines::put_line;
 use meanings::kind_word;
 use writers::Text;
 
+// By the record's first byte, which may be of no kind: so no enum.
 #[tactic(auto, unfolding(crate::specs::RecordLines::kind_line, crate::specs::RecordLines::text_line, writers::specs::Text::ascii))]
 fn put_kind<const N: usize>(text: &mut Text<N>, kind: u8)
     requires { length text.old + 2 * line_room ≤ N }

@@ -4,7 +4,7 @@ ghost use Rattle.std.specs.Prelude.{◌≡◌, not};
 ghost use Rattle.rows.specs.Rows.{row};
 ghost use Rattle.rows.specs.Refusals.{row_of};
 ghost use Rattle.names.specs.Names.{name_ok};
-ghost use Rattle.record_table.specs.Kinds.{code};
+ghost use Rattle.record_table.specs.Kinds.{Named};
 ghost use Rattle.records.specs.Content.{bears};
 ghost use Rattle.due_factors.specs.Due.{due_list};
 ghost use Rattle.due_factors.specs.inner.Places.{Few};
@@ -15,21 +15,26 @@ use record_table::Kind;
 use records::{Circulation, Factor, Head, Par, Path, Point, Unit, Zone};
 use rows::{Refusal, row};
 
-// Rows 3 to 5 of a record of a kind with `left` bytes behind its kind byte; row 2 lets a kind through. `last` is the kind's byte of the one before, or 0 before the first, `earlier` how many of its own kind stand before.
+// Rows 2 to 5 of a record with this kind byte and `left` bytes behind it; its kind where none of them fits.
+// `last` is the kind's byte of the one before, `earlier` how many of its own kind stand before.
+// `last` is no `Option<Kind>`: the definition counts kinds from 1, with 0 before the first.
 #[tactic(auto, unfolding(crate::specs::Rows::front_row))]
-pub fn front_row(last: u8, kind: Kind, earlier: usize, left: usize) -> Result<(), Refusal>
-    ensures { row_of result ≡ front_row last (code kind) earlier left 0 }
+pub fn front_row(last: u8, byte: u8, earlier: usize, left: usize) -> Result<Kind, Refusal>
+    ensures { (row_of result ≡ front_row last byte earlier left 0) × Named byte result }
 {
+    let kind = Kind::try_from(byte)?;
     let short = left < kind.body_length();
-    let falls = (kind.code() < last) | ((kind == Kind::Head) & (1 <= earlier));
+    let falls = (byte < last) | ((kind == Kind::Head) & (1 <= earlier));
     let limited = !matches!(kind, Kind::Head | Kind::Factor);
     let surplus = limited & (kind.most() <= earlier);
     row(Refusal::CutShort, short)?;
     row(Refusal::OutOfOrder, falls)?;
-    row(Refusal::OneTooMany, surplus)
+    row(Refusal::OneTooMany, surplus)?;
+    Ok(kind)
 }
 
 // Rows 6 and 7. Here and below, `well` is whether the name is well formed.
+// It comes from the caller, who judges the name once, where it stands in the sheet, for all six kinds that have one.
 fn name_rows(well: bool, repeated: bool) -> Result<(), Refusal>
     ensures { row_of result ≡ row 6 (not well) (row 7 repeated 0) }
 {
@@ -87,7 +92,7 @@ pub fn par_row(well: bool, repeated: bool, p: Par) -> Result<(), Refusal>
     row(Refusal::NumberOutside, field_rows::par_outside(p))
 }
 
-// Whether the factor is the one for d.
+// Whether the factor is the one for d. No derived `==`: a factor has a value besides, and fields of other widths.
 #[tactic(auto, unfolding(records::specs::Content::bears))]
 fn bears(f: Factor, d: Due) -> bool
     ensures { result ≡ bears f d.target d.subject d.index }
@@ -126,7 +131,7 @@ pub fn circulation_row(c: Circulation) -> Result<(), Refusal>
     row(Refusal::NumberOutside, field_rows::circulation_outside(c))
 }
 
-// Rows 12, 13 and 28.
+// Rows 12, 13 and 28. The counts come one by one: `Layout`, which has them together, is of a crate above.
 #[tactic(auto, unfolding(crate::specs::Rows::end_row))]
 pub fn end_row(n: Counts, factors: usize, paths: usize, circulations: usize) -> Result<(), Refusal>
     requires { Few n }

@@ -3,7 +3,7 @@
 mod kind;
 
 ghost use Rattle.std.specs.Prelude.{◌≡◌};
-ghost use Rattle.record_table.specs.Table.{body_length};
+ghost use Rattle.record_table.specs.Table.{kind_of, body_length};
 
 pub use kind::Kind;
 
@@ -39,6 +39,8 @@ pub const MOST_PATHS: usize = 4;
 
 pub const MOST_CIRCULATIONS: usize = 1;
 
+// Of the kind that a sheet's byte names; 0 where it names none. By byte and no `Kind`, here and below: what a byte
+// of no kind gives is promised too.
 pub fn body_length(kind: u8) -> usize
     ensures { result ≡ body_length kind }
 {
@@ -46,4 +48,14 @@ pub fn body_length(kind: u8) -> usize
         Ok(known) => known.body_length(),
         Err(_) => 0,
     }
+}
+
+// How many records of that kind there may be; 0 where the byte names none.
+pub fn most_of(kind: u8) -> usize
+    ensures { result ≡ (kind_of kind).most }
+{
+    let Ok(known) = Kind::try_from(kind) else {
+        return 0;
+    };
+    known.most()
 }

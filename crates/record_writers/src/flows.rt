@@ -13,6 +13,7 @@ use record_table::Kind;
 use records::{Par, Path};
 
 // Of a scheduled line into zone 0, which no byte says, 255: no sheet has that zone either.
+// From a draft's two numbers and no `Place`, which the C interface can't have.
 fn place_byte(p: DraftPoint) -> u8
     ensures { result ≡ place_byte (marked_place (place_given p)) }
 {
@@ -31,7 +32,7 @@ impl Record for DraftPoint {
     ghost returns = { λ p. Returns 4 point_body point_of (marked_point (point_given p)) };
 
     fn put(self, out: &mut [u8]) -> usize {
-        let mut n = put_front(Kind::Point as u8, self.name, out);
+        let mut n = put_front(Kind::Point.code(), self.name, out);
         n += self.sort.put(&mut out[n..]);
         n += place_byte(self).put(&mut out[n..]);
         n += self.import.put(&mut out[n..]);
@@ -50,7 +51,7 @@ impl Record for Par {
     ghost returns = { Returns 5 par_body par_of };
 
     fn put(self, out: &mut [u8]) -> usize {
-        let mut n = put_front(Kind::Par as u8, self.name, out);
+        let mut n = put_front(Kind::Par.code(), self.name, out);
         n += self.class.put(&mut out[n..]);
         n += self.actual.put(&mut out[n..]);
         n += self.target.put(&mut out[n..]);
@@ -66,7 +67,7 @@ impl Record for Path {
     ghost returns = { Returns 7 path_body path_of };
 
     fn put(self, out: &mut [u8]) -> usize {
-        let mut n = put_front(Kind::Path as u8, self.name, out);
+        let mut n = put_front(Kind::Path.code(), self.name, out);
         n += self.flow.put(&mut out[n..]);
         n += self.factor.put(&mut out[n..]);
         n

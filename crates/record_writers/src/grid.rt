@@ -16,7 +16,7 @@ impl Record for Head {
     ghost returns = { Returns 1 head_body head_of };
 
     fn put(self, out: &mut [u8]) -> usize {
-        let mut n = put_front(Kind::Head as u8, self.name, out);
+        let mut n = put_front(Kind::Head.code(), self.name, out);
         n += self.monitoring_rto.put(&mut out[n..]);
         n += self.seconds.put(&mut out[n..]);
         n += self.monitoring_price.put(&mut out[n..]);
@@ -33,7 +33,7 @@ impl Record for Zone {
     ghost returns = { Returns 2 zone_body zone_of };
 
     fn put(self, out: &mut [u8]) -> usize {
-        let mut n = put_front(Kind::Zone as u8, self.name, out);
+        let mut n = put_front(Kind::Zone.code(), self.name, out);
         n += self.load.put(&mut out[n..]);
         n += self.losses.put(&mut out[n..]);
         n
@@ -48,7 +48,7 @@ impl Record for Unit {
     ghost returns = { Returns 3 unit_body unit_of };
 
     fn put(self, out: &mut [u8]) -> usize {
-        let mut n = put_front(Kind::Unit as u8, self.name, out);
+        let mut n = put_front(Kind::Unit.code(), self.name, out);
         n += self.zone.put(&mut out[n..]);
         n += self.output.put(&mut out[n..]);
         n

@@ -1,5 +1,6 @@
 #![tactic(auto)]
-// Writers of records. Each fills the front of the buffer that it is lent, and returns how many bytes these are.
+// Writers of records. Each fills the front of the buffer that it is lent, and returns how many bytes these are:
+// a count and no slice, as a field's.
 mod flows;
 mod grid;
 mod nameless;

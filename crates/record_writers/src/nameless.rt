@@ -16,7 +16,7 @@ impl Record for Factor {
     ghost returns = { Returns 6 factor_body factor_of };
 
     fn put(self, out: &mut [u8]) -> usize {
-        let mut n = (Kind::Factor as u8).put(out);
+        let mut n = Kind::Factor.code().put(out);
         n += self.target.put(&mut out[n..]);
         n += self.subject.put(&mut out[n..]);
         n += self.index.put(&mut out[n..]);
@@ -33,7 +33,7 @@ impl Record for Circulation {
     ghost returns = { Returns 8 circulation_body circulation_of };
 
     fn put(self, out: &mut [u8]) -> usize {
-        let mut n = (Kind::Circulation as u8).put(out);
+        let mut n = Kind::Circulation.code().put(out);
         n += self.flow.put(&mut out[n..]);
         n
     }

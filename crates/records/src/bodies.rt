@@ -4,15 +4,15 @@ ghost use Rattle.names.specs.Names.{name_at};
 ghost use Rattle.record_table.specs.Table.{body_length};
 ghost use Rattle.records.specs.Bodies.{place_of, head_of, zone_of, unit_of, point_of, par_of, factor_of, path_of, circulation_of};
 
+// A reader for each kind: its fields and its definition are its own, and a trait would need as many impls.
 use super::{Circulation, Factor, Head, Par, Path, Place, Point, Unit, Zone};
 
+// A name stays 16 bytes, as the sheet and the C interface have it.
 fn name_of(b: &[u8]) -> [u8; 16]
     requires { 16 ≤ length b.now }
     ensures { result ≡ name_at b.now 0 }
 {
-    let mut name = [0; 16];
-    name.copy_from_slice(&b[..16]);
-    name
+    fields::bytes_at(b, 0)
 }
 
 impl From<u8> for Place {

@@ -1,4 +1,5 @@
 // The codes of a record's fields (document 01, 'The interval sheet').
+// `code` stands with each enum, no `From`: each has a definition of its own, and `u8::from` says less than the word.
 ghost use Rattle.std.specs.Prelude.{◌≡◌};
 ghost use Rattle.records.specs.Codes.{rto_code, class_code, subject_code};
 

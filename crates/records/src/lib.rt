@@ -1,6 +1,7 @@
 #![tactic(auto)]
 // The records of an interval sheet (document 01, 'The interval sheet').
 
+// Codes as patterns, for a byte that may be none of them; `Rto` and `Class` are for one that is.
 // The Monitoring RTO.
 pub const NYISO: u8 = 1;
 
@@ -11,16 +12,8 @@ pub const COMMON: u8 = 1;
 
 pub const NON_COMMON: u8 = 2;
 
-// A factor's subject.
-pub const UNIT: u8 = 1;
-
-pub const ZONE: u8 = 2;
-
-pub const POINT: u8 = 3;
-
-pub const PAR: u8 = 4;
-
 // Kind 1. Prices in cents per MWh.
+// monitoring_rto stays a byte, no `Rto`: it is the sheet's, which row 8 judges, and the C interface's.
 #[repr(C)]
 #[derive(Clone, Copy)]
 pub struct Head {
@@ -50,13 +43,16 @@ pub struct Unit {
 }
 
 // A point's place: a proxy, or a scheduled line that ends in the zone of that number.
+// An enum of its own, no `Option`: document 01 has these two kinds of place.
 #[derive(Clone, Copy)]
 pub enum Place {
     Proxy,
     Line(u8),
 }
 
-// Kind 4. sort: its type. wheel_in, wheel_out: energy that enters at one point and leaves at another (document 02, request 5).
+// Kind 4. sort: its type.
+// wheel_in, wheel_out: energy that enters at one point and leaves at another (document 02, request 5).
+// sort stays a byte, no `Class`: it is the sheet's, which row 8 judges.
 #[derive(Clone, Copy)]
 pub struct Point {
     pub name: [u8; 16],
@@ -68,7 +64,7 @@ pub struct Point {
     pub wheel_out: u32,
 }
 
-// Kind 5.
+// Kind 5. class stays a byte, no `Class`: it is the sheet's, which row 8 judges, and the C interface's.
 #[repr(C)]
 #[derive(Clone, Copy)]
 pub struct Par {
@@ -79,6 +75,7 @@ pub struct Par {
 }
 
 // Kind 6. target: 0 the flowgate, k the k-th PAR. Factors are ten-thousandths.
+// subject stays a byte, no `Subject`: it is the sheet's, which row 10 judges, and the C interface's.
 #[repr(C)]
 #[derive(Clone, Copy)]
 pub struct Factor {

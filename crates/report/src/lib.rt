@@ -10,7 +10,8 @@ use listing::Printed;
 // Room for whatever the program prints.
 pub const OUTPUT_ROOM: usize = listing::ROOM;
 
-// The statement with the listing's length, and the listing at the front of the output buffer. On a refusal the buffer stays as before.
+// The statement with the listing's length, and the listing at the front of the output buffer. On a refusal the buffer
+// stays as before.
 pub fn report(sheet: &[u8], list: &[u8], out: &mut [u8]) -> Printed
     ensures value { result ≡ reported sheet.now list.now out.old }
     ensures out_after { out.new ≡ left sheet.now list.now out.old }
@@ -20,7 +21,8 @@ pub fn report(sheet: &[u8], list: &[u8], out: &mut [u8]) -> Printed
     listing::print(s, out)
 }
 
-// The program's standard output at the front of a buffer that has room for it. Returns its length.
+// The program's standard output at the front of a buffer that has room for it. Returns its length: a count and no
+// slice, as in `writers::put`.
 pub fn write_output(sheet: &[u8], list: &[u8], out: &mut [u8; OUTPUT_ROOM]) -> usize
     ensures value { result ≡ length (output sheet.now list.now) }
     ensures out_after { out.new ≡ written (output sheet.now list.now) out.old }

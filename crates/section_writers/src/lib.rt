@@ -1,6 +1,6 @@
 #![tactic(auto)]
 // Writers of records one behind the other, from the front of the buffer that is lent: of a draft's in three parts.
-// Each returns how many bytes these are; read again, each body is its record.
+// Each returns how many bytes these are, a count as a record's; read again, each body is its record.
 ghost use Rattle.std.specs.Prelude.{◌≡◌, ◌∷◌, ◌++◌, map, ◌+◌, ◌*◌, ◌≤◌, length};
 ghost use Rattle.writers.specs.inner.Wrote.{Wrote};
 ghost use Rattle.record_table.specs.inner.Sizes.{size};

@@ -14,6 +14,7 @@ use sheet::AcceptedSheet;
 use statement::Statement;
 
 // What settling an interval answers: the statement with the sheet's seconds and Monitoring RTO.
+// A code and no `Rto`: the C interface has it so in the head and in the hour.
 #[derive(Clone, Copy)]
 pub struct Interval {
     pub statement: Statement,
@@ -21,6 +22,7 @@ pub struct Interval {
     pub monitoring_rto: u8,
 }
 
+// Field by field: C has the statement flat.
 fn interval_of(
     h: &Head,
     f: &market_flow::Flow,
@@ -57,6 +59,7 @@ fn interval_of(
 }
 
 // The settlement flow, and the payment on it. Row 22 is judged on that flow, before anything is paid.
+// e, here and below: an entitlement as `entitlements::find` gives it. A number, since it is the statement's.
 fn settle_flow(served: &Served<'_>, e: i64) -> Result<Interval, Refusal>
     requires { nat_abs e ≤ 100000 }
     ensures { Settles result (after_balance (content_of served.now.sheet.bytes.now) e) }
@@ -79,23 +82,13 @@ fn settle_balance(sheet: &AcceptedSheet<'_>, e: i64) -> Result<Interval, Refusal
     settle_flow(&served, e)
 }
 
-// An accepted sheet: the entitlement list, then the balance.
-pub fn settle_sheet(sheet: &AcceptedSheet<'_>, list: &[u8]) -> Result<Interval, Refusal>
+// An accepted sheet: the entitlement list, then the balance. The interval, or the first refusal behind the records.
+pub fn interval_or_refusal(sheet: &AcceptedSheet<'_>, list: &[u8]) -> Result<Interval, Refusal>
     ensures { Settles result (after_sheet (content_of sheet.now.bytes.now) (inputs sheet.now.bytes.now list.now)) }
 {
     let h = sheet_records::head_at(sheet);
     let e = entitlements::find(list, &h.name)?;
     settle_balance(sheet, e)
-}
-
-// The interval of a sheet and a list, or the first refusal on the way.
-fn settle_bytes(sheet: &[u8], list: &[u8]) -> Result<Interval, Refusal>
-    ensures { Settles result (interval (inputs sheet.now list.now)) }
-{
-    match sheet::read(sheet) {
-        Err(refused) => Err(refused.refusal),
-        Ok(accepted) => settle_sheet(&accepted, list),
-    }
 }
 
 // A refused interval: the number, and zeros everywhere else.
@@ -110,14 +103,25 @@ fn refused(refusal: Refusal) -> Interval
     }
 }
 
+// The interval of an accepted sheet and a list, a refused one too.
+pub fn settle_sheet(sheet: &AcceptedSheet<'_>, list: &[u8]) -> Interval
+    ensures { result ≡ after_sheet (content_of sheet.now.bytes.now) (inputs sheet.now.bytes.now list.now) }
+{
+    match interval_or_refusal(sheet, list) {
+        Ok(i) => i,
+        Err(refusal) => refused(refusal),
+    }
+}
+
 // The interval of any two byte strings: all inputs of a settlement come here.
+// Sheet and list stay two parameters, here and in what calls this: document 01's forms have them so.
 pub fn settle_interval(sheet: &[u8], list: &[u8]) -> Interval
     ensures value { result ≡ interval (inputs sheet.now list.now) }
     ensures promise { Promise sheet.now list.now result.statement }
 {
-    match settle_bytes(sheet, list) {
-        Ok(i) => i,
-        Err(refusal) => refused(refusal),
+    match sheet::read(sheet) {
+        Err(r) => refused(r.refusal),
+        Ok(accepted) => settle_sheet(&accepted, list),
     }
 }
 

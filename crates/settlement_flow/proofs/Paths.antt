@@ -1,9 +1,10 @@
 -- Whether an accepted sheet has paths, by its layout; its adjusted flow.
 use Prim.Native.Nat.{ℕ, ◌≤◌, ◌<◌}
-use mathlib.Core.Path.{◌≡◌}
-use mathlib.Core.Bool.{true}
+use mathlib.Core.Path.{◌≡◌, ◌∙◌}
+use mathlib.Core.Bool.{true, false}
 use mathlib.Core.List.{List}
-use borrow.Author.Tests.{leb-true}
+use native.Mathlib.Omega.{arith}
+use borrow.Author.Tests.{le-leb, lt-leb, leb-true}
 use lib.Dec.{leb, lit<}
 use lib.IntN.{ℤ, nat_abs, ◌+ℤ◌}
 use Rattle.integers.proofs.Machine.{Op, rd, num_is, add}
@@ -20,8 +21,14 @@ module _ (s : List ℕ) (l : Layout) (e : read_sheet s ≡ Accepted l) where
   unfolding has_paths
   paths_are = rw (counts s l e).paths
 
-  pub some_paths : has_paths (content_of s) ≡ true → 0 < l.paths
-  some_paths h = leb-true 1 l.paths (rw paths_are at h)
+  pub no_paths : l.paths ≡ 0 → has_paths (content_of s) ≡ false
+  no_paths z = paths_are ∙ lt-leb 1 l.paths (omega arith)
+
+  pub some_paths : (l.paths ≡ 0 → ⊥) → has_paths (content_of s) ≡ true
+  some_paths n = paths_are ∙ le-leb 1 l.paths (omega (arith, n))
+
+  pub paths_laid : has_paths (content_of s) ≡ true → 0 < l.paths
+  paths_laid h = leb-true 1 l.paths (rw paths_are at h)
 
   -- the market flow and the impact, as they are given
   pub adjusted : (market : ℤ) → market ≡ market_flow (content_of s) → nat_abs market ≤ most_market → (z : ℤ) → z ≡ impact (content_of s) →

@@ -21,14 +21,14 @@ fn path_term(sheet: &AcceptedSheet<'_>, around: i64, i: usize) -> i64
     ensures { result ≡ path_term (content_of sheet.now.bytes.now) i }
 {
     let p = sheet_records::path_at(sheet, i);
-    (4 * p.flow as i64 - around) * p.factor as i64 * 10
+    (4 * i64::from(p.flow) - around) * i64::from(p.factor) * 10
 }
 
 fn path_sum(sheet: &AcceptedSheet<'_>) -> i64
     requires { 0 < sheet.now.layout.paths }
     ensures { result ≡ path_sum (content_of sheet.now.bytes.now) }
 {
-    let around = sheet_records::circulation_at(sheet).flow as i64;
+    let around = i64::from(sheet_records::circulation_at(sheet).flow);
     sums::sum_to(sheet.layout.paths, |i| path_term(sheet, around, i))
 }
 

@@ -1,4 +1,5 @@
 pub mod Passing
+pub mod RecordRow
 pub mod RecordByRecord
 pub mod Answers
 pub mod RecordsFine

@@ -8,18 +8,19 @@ use lib.Dec.{eqb}
 use lib.ListN.{length, drop, length-append, length-drop}
 use borrow.Author.Tests.{eqb-true, leb-false, ne_eqb}
 use Rattle.fields.specs.Fields.{byte_at}
-use Rattle.record_table.specs.Table.{kind_of, last_kind, body_in}
+use Rattle.rows.specs.Rows.{row, cut_short}
+use Rattle.record_table.specs.Table.{kind_of, last_kind, body_length, body_in}
 use Rattle.records.specs.Bodies.{head_of, zone_of, unit_of, point_of, par_of, factor_of, path_of, circulation_of}
 use Rattle.records.specs.Content.{Content, no_content, count_of, only_if, with_record}
-use Rattle.record_rows.specs.Rows.{unknown_kind, front_row, repeats, record_row, body_row}
-use Rattle.record_rows.proofs.FrontRows.{Fronted, front_pass, front_split}
+use Rattle.record_rows.specs.Rows.{unknown_kind, front_row, factor_row, repeats, record_row, body_row}
+use Rattle.record_rows.proofs.FrontRows.{Fronted, front_pass, front_split, front_factor}
 use Rattle.layout.specs.declared.Layout.{Layout}
-use Rattle.layout.specs.inner.Places.{one, count, counted, no_records, Allowed, content_at}
+use Rattle.layout.specs.inner.Places.{one, count, due_of, counted, no_records, Allowed, content_at}
 use Rattle.layout.specs.Layout.{layout_of}
 use Rattle.layout.specs.inner.Listed.{Listed}
 use Rattle.layout.proofs.Listed.{listed_at, listed_kept}
 use Rattle.layout.proofs.Laid.{Laid, laid_none, laid_next}
-use Rattle.layout.proofs.Contents.{none_at, layout_at, count_at, content_next}
+use Rattle.layout.proofs.Contents.{none_at, layout_at, count_at, counts_at, content_next}
 use Rattle.sheet.specs.Passed.{Passed, none, more}
 
 one_more : {A : Type 0} (l : List A) (b : Bool) (a : A) → length (l ++ only_if b a) ≡ length l + one b
@@ -134,6 +135,16 @@ module _ (s : List ℕ) where
         let f = at-fronted h e in
         let k = byte_at s at in
         listed_kept s l k table f.low f.high n (listed_at s l k table last at at-laid f.order f.high x)
+
+-- the rows of a factor that no later kind stands before
+factor_rows : (s : List ℕ) (l : Layout) (last : ℕ) (r : List ℕ) → last ≤ 6 →
+    record_row (content_at s l) last 6 r ≡ row 3 (cut_short (body_length 6) (length r)) (factor_row (due_of l) l.factors (factor_of (body_in 6 r)))
+unfolding record_row body_row
+factor_rows s l last r h = front_factor last (count_of (content_at s l) 6) (length r) _ h ∙ rw (counts_at s l, count_at s l 6)
+
+pub record_factor : (s : List ℕ) (l : Layout) (last kind : ℕ) (r : List ℕ) → kind ≡ 6 → last ≤ 6 →
+    record_row (content_at s l) last kind r ≡ row 3 (cut_short (body_length 6) (length r)) (factor_row (due_of l) l.factors (factor_of (body_in 6 r)))
+record_factor s l last kind r q h = rw q (factor_rows s l last r h)
 
 module _ (s : List ℕ) (l : Layout) (last kind at : ℕ) where
   -- where none of rows 2 to 5 fits a record its body's rows decide

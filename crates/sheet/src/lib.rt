@@ -5,7 +5,7 @@ mod answer;
 ghost use Rattle.std.specs.Prelude.{◌≡◌, List, ℕ, MatchResult, ◌+◌, ◌*◌, ◌≤◌, ◌<◌, ◌^◌, length, true};
 ghost use Rattle.fields.specs.Fields.{byte_at};
 ghost use Rattle.record_table.specs.Table.{kind_of, body_length};
-ghost use Rattle.record_table.specs.Kinds.{code};
+ghost use Rattle.record_table.specs.Kinds.{code, Named};
 ghost use Rattle.records.specs.Content.{Content};
 ghost use Rattle.record_rows.specs.Rows.{body_row, last_row};
 ghost use Rattle.layout.specs.Layout.{layout_of};
@@ -16,7 +16,7 @@ ghost use Rattle.sheet.specs.Sheet.{holds, unless, outcome, read_sheet};
 ghost use Rattle.sheet.specs.Sheet as reader;
 ghost use Rattle.sheet.specs.Passed.{Passed};
 ghost use Rattle.rows.specs.Refusals.{number, row_of};
-ghost use Rattle.sheet.specs.inner.Answered.{outcome_of, Named};
+ghost use Rattle.sheet.specs.inner.Answered.{outcome_of};
 ghost use Rattle.sheet.specs.inner.RowHere.{RowHere};
 ghost use Rattle.sheet.specs.inner.GoodFactors.{key_of, Good};
 
@@ -54,38 +54,26 @@ fn named_row(zones: usize, kind: Kind, repeated: bool, b: &[u8]) -> Result<(), R
     }
 }
 
-// The first of rows 3 to 11 that fits the record of a kind at a place. The table holds the names of the last kind, then of this record's.
-fn known_row(
-    s: &[u8],
-    l: Layout,
-    last: u8,
-    kind: Kind,
-    at: usize,
-    table: &mut [u16],
-) -> Result<(), Refusal>
-    requires { Passed s.now at last (content_at s.now l) × (at < length s.now) × Listed s.now l last table.old × (code kind ≡ byte_at s.now at) }
-    ensures { RowHere s.now l last at table.new (row_of result) }
-{
-    let from = at + 1;
-    record_rows::front_row(last, kind, l.count_of(kind), s.len() - from)?;
-    let b = &s[from..from + kind.body_length()];
-    match kind {
-        Kind::Factor => record_rows::factor_row(l.counts_in(), l.factors, bodies::factor_of(b)),
-        Kind::Circulation => record_rows::circulation_row(bodies::circulation_of(b)),
-        _ => {
-            let repeated = layout::repeated(s, l, kind, at, table);
-            named_row(l.zones, kind, repeated, b)
-        }
-    }
-}
-
-// The kind of the record at a place, or the first row that fits it.
+// The kind of the record at a place, or the first of rows 2 to 11 that fits it.
+// The table holds the names of the last kind, then of this record's.
+// Here and below, `last` is no `Option<Kind>`: the definitions count kinds from 1, with 0 before the first.
+// The reader's state stays parameters: what is known of it stands in two contracts, here and at `past_factors`.
 fn record_row(s: &[u8], l: Layout, last: u8, at: usize, table: &mut [u16]) -> Result<Kind, Refusal>
     requires { Passed s.now at last (content_at s.now l) × (at < length s.now) × Listed s.now l last table.old }
     ensures { RowHere s.now l last at table.new (row_of result) × Named (byte_at s.now at) result }
 {
-    let kind = Kind::try_from(s[at])?;
-    known_row(s, l, last, kind, at, table)?;
+    let from = at + 1;
+    let earlier = layout::count_of(l, s[at]);
+    let kind = record_rows::front_row(last, s[at], earlier, s.len() - from)?;
+    let b = &s[from..from + kind.body_length()];
+    match kind {
+        Kind::Factor => record_rows::factor_row(l.counts_in(), l.factors, bodies::factor_of(b))?,
+        Kind::Circulation => record_rows::circulation_row(bodies::circulation_of(b))?,
+        _ => {
+            let repeated = layout::repeated(s, l, kind, at, table);
+            named_row(l.zones, kind, repeated, b)?;
+        }
+    }
     Ok(kind)
 }
 
@@ -121,7 +109,8 @@ fn key_of(d: due_factors::Due) -> u32
     target * 0x100_0000 + subject * 0x1_0000 + d.index as u32
 }
 
-// Past the factors behind a factor that pass too, up to the last of their target and subject. Each is judged by its bytes in one go; the first that is not good is left to `record_row`.
+// Past the factors behind a factor that pass too, up to the last of their target and subject.
+// Each is judged by its bytes in one go; the first that is not good is left to `record_row`.
 fn past_factors(s: &[u8], l: &mut Layout, last: u8, at: usize) -> usize
     requires { Passed s.now at last (content_at s.now l.old) }
     ensures { (at ≤ result) × Passed s.now result last (content_at s.now l.new) × ((table : List ℕ) → Listed s.now l.old last table → Listed s.now l.new last table) }

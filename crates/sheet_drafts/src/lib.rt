@@ -10,7 +10,7 @@ use record_table::Kind;
 use records::{Circulation, Factor, Head, Par, Path, Unit, Zone, bodies};
 use sheet::AcceptedSheet;
 
-// What stands where there is no record.
+// What stands where there is no record. Constants and no `Default`: over its calls `draft_of` isn't proved.
 const NO_HEAD: Head = Head {
     name: [0; 16],
     monitoring_rto: 0,
@@ -68,29 +68,22 @@ const NO_CIRCULATION: Circulation = Circulation { flow: 0 };
 pub fn no_draft() -> Draft
     ensures { result ≡ draft_of no_content }
 {
-    let zones = [NO_ZONE; drafts::ZONES];
-    let units = [NO_UNIT; drafts::UNITS];
-    let points = [NO_POINT; drafts::POINTS];
-    let pars = [NO_PAR; drafts::PARS];
-    let factors = [NO_FACTOR; drafts::FACTORS];
-    let paths = [NO_PATH; drafts::PATHS];
-    let circulations = [NO_CIRCULATION; drafts::CIRCULATIONS];
     Draft {
         head: NO_HEAD,
         zone_count: 0,
-        zones,
+        zones: [NO_ZONE; drafts::ZONES],
         unit_count: 0,
-        units,
+        units: [NO_UNIT; drafts::UNITS],
         point_count: 0,
-        points,
+        points: [NO_POINT; drafts::POINTS],
         par_count: 0,
-        pars,
+        pars: [NO_PAR; drafts::PARS],
         factor_count: 0,
-        factors,
+        factors: [NO_FACTOR; drafts::FACTORS],
         path_count: 0,
-        paths,
+        paths: [NO_PATH; drafts::PATHS],
         circulation_count: 0,
-        circulations,
+        circulations: [NO_CIRCULATION; drafts::CIRCULATIONS],
     }
 }
 
@@ -101,7 +94,8 @@ fn factor_at(sheet: &AcceptedSheet<'_>, i: usize) -> Factor
     bodies::factor_of(layout::body_at(sheet.bytes, sheet.layout, Kind::Factor, i))
 }
 
-// An array of n records, with `none` behind them.
+// An array of n records, with `none` behind them. No `array::from_fn`: it asks how large a record is in memory, which
+// nothing here says of an R, and its contract over a closure that calls another isn't proved.
 fn cells_of<R: Copy, const N: usize, F: Fn(usize) -> R>(none: R, n: usize, read: F) -> [R; N]
     requires room { n ≤ N }
     requires callable { (i : ℕ) → i < n → F.pre read i }

@@ -1,5 +1,6 @@
 #![tactic(auto)]
 // The records of an accepted sheet, read where they stand; those of a kind are counted from 0.
+// A function for each kind: result, index and the fact of the definition differ, so that a trait needs as many impls.
 ghost use Rattle.std.specs.Prelude.{◌≡◌, ◌+◌, ◌<◌};
 ghost use Rattle.records.specs.Codes.{subject_code};
 ghost use Rattle.records.specs.Content.{head, zone, unit, point, par, path, circulation, factor_for};

@@ -1,19 +1,28 @@
--- The bytes of the records that a draft gives.
+-- The records that a draft gives: how many there are, and their bytes.
 use Prim.Native.Nat.{ℕ}
-use mathlib.Core.Path.{◌≡◌, refl}
-use mathlib.Core.List.{List, ◌∷◌, ◌++◌, append-nil, append_assoc}
+use mathlib.Core.Path.{◌≡◌, refl, sym, ◌∙◌}
+use mathlib.Core.List.{List, ◌∷◌, ◌++◌, map, append-nil, append_assoc}
+use native.Mathlib.Omega.{arith}
+use lib.ListN.{length, take}
+use lib.Seq.{take_all}
+use borrow.Author.Tests.{lt-ltb, le-ltb}
+use Rattle.integers.proofs.Cases.{below_or}
 use Rattle.drafts.specs.declared.Draft.{Draft}
-use Rattle.drafts.specs.Draft.{given}
+use Rattle.drafts.specs.Draft.{point_given, given}
+use Rattle.records.specs.Bodies.{head_of, zone_of, unit_of, point_of, par_of, factor_of, path_of, circulation_of}
 use Rattle.sheet_bytes.specs.SheetBytes.{head_body, zone_body, unit_body, point_body, par_body, factor_body, path_body, circulation_body, all, sheet_bytes}
-use Rattle.sheet_bytes.specs.inner.Marked.{marked}
+use Rattle.sheet_bytes.specs.inner.Marked.{marked_point, marked}
+use Rattle.sheet_bytes.specs.inner.Returns.{Returns, Each, Returned}
+use Rattle.sheet_writer.specs.inner.Given.{at_most}
 
 module _ (d : Draft) where
-  pub given_bytes : (1 ∷ head_body d.head) ++ all 2 zone_body (marked (given d)).zones ++ all 3 unit_body (marked (given d)).units
+  -- part by part, as they are written
+  pub content_bytes : (1 ∷ head_body d.head) ++ all 2 zone_body (marked (given d)).zones ++ all 3 unit_body (marked (given d)).units
       ++ (all 4 point_body (marked (given d)).points ++ all 5 par_body (marked (given d)).pars ++ all 6 factor_body (marked (given d)).factors)
       ++ (all 7 path_body (marked (given d)).paths ++ all 8 circulation_body (marked (given d)).circulations)
       ≡ sheet_bytes (marked (given d))
   unfolding sheet_bytes all
-  given_bytes =
+  content_bytes =
       let c = marked (given d) in
       let head : List ℕ = 1 ∷ head_body d.head in
       let zones = all 2 zone_body c.zones in
@@ -31,3 +40,57 @@ module _ (d : Draft) where
         append_assoc head zones (units ++ (points ++ (pars ++ (factors ++ lake)))),
       )
       refl
+
+-- an array of `most` cells, and n, its count or all of them
+pub record Part {A : Type 0} (l : List A) (most count n : ℕ) : Type 0 where
+  pub full : length l ≡ most
+  pub is : n ≡ at_most count most
+
+module _ {A : Type 0} {l : List A} {most count n : ℕ} (h : Part l most count n) where
+  pub part_taken : take n l ≡ take count l
+  part_taken =
+      below_or count most
+      (λ g. rw (h.is, lt-ltb count most g) refl)
+      (λ g. rw (h.is, le-ltb count most g) (take_all most l (omega (arith, h.full)) ∙ sym (take_all count l (omega (arith, h.full)))))
+
+pub record Parts (d : Draft) (z u p a f q k : ℕ) : Type 0 where
+  pub zones : Part d.zones 33 d.zone_count z
+  pub units : Part d.units 257 d.unit_count u
+  pub points : Part d.points 33 d.point_count p
+  pub pars : Part d.pars 9 d.par_count a
+  pub factors : Part d.factors 2889 d.factor_count f
+  pub paths : Part d.paths 5 d.path_count q
+  pub circulations : Part d.circulations 2 d.circulation_count k
+
+module _ {d : Draft} {z u p a f q k : ℕ} (h : Parts d z u p a f q k) where
+  pub given_bytes : (1 ∷ head_body d.head) ++ all 2 zone_body (take z d.zones) ++ all 3 unit_body (take u d.units)
+      ++ (all 4 point_body (map marked_point (map point_given (take p d.points))) ++ all 5 par_body (take a d.pars) ++ all 6 factor_body (take f d.factors))
+      ++ (all 7 path_body (take q d.paths) ++ all 8 circulation_body (take k d.circulations))
+      ≡ sheet_bytes (marked (given d))
+  given_bytes =
+      rw (
+        part_taken h.zones,
+        part_taken h.units,
+        part_taken h.points,
+        part_taken h.pars,
+        part_taken h.factors,
+        part_taken h.paths,
+        part_taken h.circulations,
+      )
+      (content_bytes d)
+
+  -- what each writer says of its records, of all that are given
+  pub given_returned : Returns 1 head_body head_of d.head × Each (Returns 2 zone_body zone_of) (take z d.zones) × Each (Returns 3 unit_body unit_of) (take u d.units) →
+      Each (Returns 4 point_body point_of) (map marked_point (map point_given (take p d.points))) × Each (Returns 5 par_body par_of) (take a d.pars) × Each (Returns 6 factor_body factor_of) (take f d.factors) →
+      Each (Returns 7 path_body path_of) (take q d.paths) × Each (Returns 8 circulation_body circulation_of) (take k d.circulations) →
+      Returned (marked (given d))
+  given_returned grid flows lake = record {
+    heads = (grid.0, tt);
+    zones = rw (part_taken h.zones) at grid.1;
+    units = rw (part_taken h.units) at grid.2;
+    points = rw (part_taken h.points) at flows.0;
+    pars = rw (part_taken h.pars) at flows.1;
+    factors = rw (part_taken h.factors) at flows.2;
+    paths = rw (part_taken h.paths) at lake.0;
+    circulations = rw (part_taken h.circulations) at lake.1;
+  }

@@ -34,7 +34,7 @@ pub struct Written {
     pub length: usize,
 }
 
-// The first n of some records, and at most all.
+// The first n of an array's records, and at most all: in the C interface a count stands beside each array.
 fn first<R, const N: usize>(records: &[R; N], n: usize) -> &[R]
     ensures value { result.now ≡ take n records.now }
     ensures within { length result.now ≤ N }

@@ -3,11 +3,12 @@
 ghost use Rattle.std.specs.Prelude.{◌≡◌};
 ghost use Rattle.statement.specs.Statement.{refused_as};
 
-// refusal: 0, or the number of the row that refuses. Flows and entitlement are watts, the price is cents per MWh, amount
-// and payments are thousandths of a cent. The remainders are those of the generation-to-load flow. has_paths: whether the
-// sheet has paths and the circulation. settled: the settlement flow; without paths it is the market flow.
+// refusal: 0, or the number of the row that refuses. Flows and entitlement are watts, the price is cents per MWh,
+// amount and payments are thousandths of a cent. The remainders are those of the generation-to-load flow. has_paths:
+// whether the sheet has paths and the circulation. settled: the settlement flow; without paths it is the market flow.
+// A number and a flag beside the figures, and no `Result`: the struct is the C interface's.
 #[repr(C)]
-#[derive(Clone, Copy)]
+#[derive(Clone, Copy, Default)]
 pub struct Statement {
     pub refusal: u8,
     pub name: [u8; 16],
@@ -28,27 +29,12 @@ pub struct Statement {
     pub pjm: i64,
 }
 
-// The statement that row n refuses: the number, and zeros everywhere else.
+// The statement that row n refuses: the number, and zeros everywhere else. No `Refusal`: in the C interface it is n.
 pub fn refused(n: u8) -> Statement
     ensures { result ≡ refused_as n }
 {
     Statement {
         refusal: n,
-        name: [0; 16],
-        has_paths: false,
-        gtl: 0,
-        first_remainder: 0,
-        second_remainder: 0,
-        parallel: 0,
-        shadow: 0,
-        common: 0,
-        noncommon: 0,
-        market: 0,
-        settled: 0,
-        entitlement: 0,
-        price: 0,
-        amount: 0,
-        nyiso: 0,
-        pjm: 0,
+        ..Statement::default()
     }
 }

@@ -72,7 +72,8 @@ pub fn failure(errno: i32) -> CallError
     }
 }
 
-// Here and in the steps reading and writing stay apart: little is there but the promise of the bytes, and that differs.
+// Here and in the steps reading and writing stay apart: little is there but the promise of the bytes, and that
+// differs.
 fn read_some<R: Read>(reader: &mut R, part: &mut [u8]) -> Answer
     ensures moves { ReadsAtMost result part.new }
     ensures number { IfErr result NoInterruption }
@@ -89,8 +90,8 @@ fn write_some<W: Write>(writer: &mut W, part: &[u8]) -> Answer
     Ok(writer.write(part)?)
 }
 
-// After a call that was handed the bytes behind the first `done` of `room`. One that moves none of them brings the outcome
-// `none`.
+// After a call that was handed the bytes behind the first `done` of `room`. One that moves none of them brings the
+// outcome `none`.
 fn after(answer: Answer, done: usize, room: usize, none: Outcome) -> Step
     requires done_le_room { done ≤ room }
     requires moves { Moves (room - done) answer }
@@ -130,8 +131,8 @@ fn write_step<W: Write>(writer: &mut W, bytes: &[u8], done: usize) -> Step
     after(answer, done, bytes.len(), Err(Errno { number: EIO }))
 }
 
-// Reads until the buffer is full or the input ends: all bytes, or none where a call fails. A call that a signal interrupts
-// is made again. A proved loop has to end, so the calls are counted, up to a number that no run uses up.
+// Reads until the buffer is full or the input ends: all bytes, or none where a call fails. A call that a signal
+// interrupts is made again. A proved loop has to end, so the calls are counted, up to a number that no run uses up.
 // The loop stands here and in `write_all`: one for both needs a trait with its laws, and is longer than the two.
 #[tactic(auto, using(crate::proofs::Steps::onward))]
 pub fn read_all<R: Read>(reader: &mut R, buf: &mut [u8]) -> Outcome

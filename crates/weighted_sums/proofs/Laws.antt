@@ -8,13 +8,11 @@ use mathlib.Core.List.{List}
 use lib.Dec.{eqb, lit<, lit≤}
 use lib.IntN.{ℤ, pos, nat_abs, ◌-ℤ◌, ◌*ℤ◌}
 use lib.ListN.{length, get_or}
-use mir.Val.{to_z}
-use mir.Syntax.{w64}
 use Rattle.integers.proofs.Linear.{zarith}
 use Rattle.integers.proofs.Tactic.{zi, zo}
 use Rattle.integers.proofs.Absolute.{abs_sub}
 use Rattle.integers.proofs.Sums.{sum_same}
-use Rattle.integers.proofs.Machine.{Num, Op, rd, num, num_is, num_u, mul}
+use Rattle.integers.proofs.Machine.{Num, Op, rd, num, num_is, mul}
 use Rattle.due_factors.specs.Due.{Asked, how_many}
 use Rattle.layout.specs.declared.Layout.{Layout}
 use Rattle.records.specs.declared.Unit.{Unit}
@@ -32,7 +30,7 @@ use Rattle.figures.proofs.Ranges.{output_within, zone_load_within, net_within}
 use Rattle.zone_sums.specs.ByZone.{zone_loads}
 use Rattle.zone_sums.specs.inner.Ledger.{figure_at}
 use Rattle.zone_sums.proofs.Cells.{cell_at}
-use Rattle.weighted_sums.specs.inner.Weighted.{tenfold_in, power_of, weighted_term, members, weighted_sum}
+use Rattle.weighted_sums.specs.inner.Weighted.{Lent, tenfold_in, power_of, weighted_term, members, weighted_sum}
 
 -- the class is asked before or after the factor
 tenfold_times : (b : Bool) (x f : ℤ) → cond b (x *ℤ pos 10) (pos 0) *ℤ f ≡ cond b (x *ℤ f *ℤ pos 10) (pos 0)
@@ -106,9 +104,9 @@ module _ (s : List ℕ) (l : Layout) (e : read_sheet s ≡ Accepted l) where
       (num_is f _ 10000 ef ((valid s l e).factor_fits target subject i (rw ((counts s l e).zones, (counts s l e).units, (counts s l e).points, (counts s l e).pars) at a)) (lit< tt)) (lit< tt)
 
   -- a unit's output as it is read
-  pub output_read : (i : ℕ) → i < l.units → (u : Unit) → u ≡ unit (content_of s) i → Num (to_z w64 u.output) (output (content_of s) i) 2000000
+  pub output_read : (i : ℕ) → i < l.units → (u : Unit) → u ≡ unit (content_of s) i → (power : ℤ) → power ≡ pos u.output → Num (rd power) (output (content_of s) i) 2000000
   unfolding output
-  output_read i h u g = rw g (num_u _ 2000000 ((valid s l e).unit_fits i (rw (counts s l e).units at h)).output (lit< tt))
+  output_read i h u g power q = num_is power _ 2000000 (rw g at q) (output_within (valid s l e) i (rw (counts s l e).units at h)) (lit< tt)
 
   pub output_term_within : {target i : ℕ} → target ≤ l.pars → i < l.units → nat_abs (weighted_term (content_of s) unit_subject 0 target i) ≤ 104000000000
   unfolding weighted_term power_of
@@ -155,11 +153,19 @@ module _ (s : List ℕ) (l : Layout) (e : read_sheet s ≡ Accepted l) where
   load_most z h = zone_load_within (valid s l e) z (rw (counts s l e).zones at h)
 
   -- a zone's term, from its load as it is read
-  pub load_term_lem : {array : List ℤ} → array ≡ zone_loads (content_of s) → (target z : ℕ) → z < l.zones →
+  pub load_term_is : {array : List ℤ} → array ≡ zone_loads (content_of s) → (target z : ℕ) → z < l.zones →
       rd (get_or array z (pos 0)) *ℤ factor (content_of s) target zone_subject z ≡ load_term (content_of s) target z
   unfolding load_term
-  load_term_lem g target z h = rw (num_is _ _ 10400000 (load_read g z h) (load_most z h) (lit< tt)).is
+  load_term_is g target z h = rw (num_is _ _ 10400000 (load_read g z h) (load_most z h) (lit< tt)).is
 
   pub load_term_within : {target z : ℕ} → target ≤ l.pars → z < l.zones → nat_abs (load_term (content_of s) target z) ≤ 104000000000
   unfolding load_term
   load_term_within {z = z} k h = (weighed (zone_asked k z h) (zone_load (content_of s) z) _ (load_most z h) refl).num.abs
+
+module _ {s : List ℕ} {l : Layout} {array : List ℤ} (g : Lent s l array) (target z : ℕ) (known : target ≤ l.pars) (within : z < l.zones) where
+  -- the same with the factor as it is read, and how large it can be
+  pub load_term_lem : (f : ℤ) → f ≡ factor_for (content_of s).factors target zone_subject (z + 1) → Op (rd (get_or array z (pos 0)) *ℤ rd f) (load_term (content_of s) target z) 104000000000
+  unfolding load_term
+  load_term_lem f ef =
+      rw (load_read s l g.accepted g.loads z within)
+      (weighed s l g.accepted (zone_asked s l g.accepted known z within) (zone_load (content_of s) z) f (load_most s l g.accepted z within) ef)

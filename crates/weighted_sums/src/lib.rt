@@ -12,8 +12,9 @@ ghost use Rattle.weighted_sums.specs.inner.Weighted.{tenfold_in, weighted_term, 
 use records::{Class, Par, Point, Subject};
 use sheet::AcceptedSheet;
 
-// The flowgate as a target, which alone has factors of PARs.
-const FLOWGATE: usize = 0;
+// The flowgate as a target, which alone has factors of PARs; the PAR of index i is target i + 1. Numbers, as in the
+// sheet. They stand beside the sheet, with a clause: a struct of a sheet and a target would be made for each PAR.
+pub const FLOWGATE: usize = 0;
 
 // Ten times a record's power, if the record is of the class asked. of: the record's code, a number in the C interface.
 #[tactic(auto, unfolding(crate::specs::inner::Weighted::tenfold_in))]
@@ -28,13 +29,13 @@ fn tenfold_in(of: u8, class: Class, power: i64) -> i64
 fn net_schedule(p: &Point) -> i64
     ensures { result ≡ net_schedule p.now }
 {
-    p.import as i64 + p.wheel_in as i64 - p.export as i64 - p.wheel_out as i64
+    i64::from(p.import) + i64::from(p.wheel_in) - i64::from(p.export) - i64::from(p.wheel_out)
 }
 
 fn over_target(p: &Par) -> i64
     ensures { result ≡ p.now.actual -ℤ p.now.target }
 {
-    p.actual as i64 - p.target as i64
+    i64::from(p.actual) - i64::from(p.target)
 }
 
 // A power times the factor, on the target, of the record that brings it.
@@ -51,7 +52,7 @@ fn output_term(sheet: &AcceptedSheet<'_>, target: usize, i: usize) -> i64
     ensures { result ≡ weighted_term (content_of sheet.now.bytes.now) unit_subject 0 target i }
 {
     let u = sheet_records::unit_at(sheet, i);
-    weigh(sheet, target, Subject::Unit, i, u.output as i64)
+    weigh(sheet, target, Subject::Unit, i, i64::from(u.output))
 }
 
 fn point_term(sheet: &AcceptedSheet<'_>, class: Class, target: usize, i: usize) -> i64

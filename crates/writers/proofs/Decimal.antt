@@ -1,7 +1,7 @@
 -- Laws of decimal texts: their digits one by one, and how many there are.
 use mathlib.Core.Path.{◌≡◌, refl, ap}
 use mathlib.Core.Bool.{cond}
-use mathlib.Core.List.{List, [], ◌∷◌, ◌++◌}
+use mathlib.Core.List.{List, [], ◌∷◌, ◌++◌, append_assoc}
 use Prim.Native.Nat.{ℕ, zero, suc, ◌+◌, ◌/◌, ◌%◌, ◌^◌, ◌≤◌, ◌<◌}
 use native.Mathlib.Decide.{dec_lt}
 use native.Mathlib.Nat.{div-lt_iff_lt-mul, mul_comm, pow-succ'}
@@ -58,4 +58,31 @@ natural_length (suc k) n h =
     elim (dec_lt n 10) [
       | yes s ↦ omega (arith, one_digit n s)
       | no b ↦ let g : 10 ≤ n = omega arith in omega (arith, one_more n g, natural_length k (n / 10) (fewer k n h))
+    ]
+
+-- the two digits of a number below 100
+abbrev pub two : ℕ → List ℕ
+two n = digit (n / 10) ∷ digit (n % 10) ∷ []
+
+pub natural_two : (n : ℕ) → 10 ≤ n → n < 100 → natural n ≡ two (n % 100)
+natural_two n h k =
+    let e : n % 100 ≡ n = omega arith in
+    rw (natural_more n h, natural_digit (n / 10) (omega arith), e) refl
+
+-- all digits but the last two, and then these
+pub natural_behind : (n : ℕ) → 100 ≤ n → natural n ≡ natural (n / 100) ++ two (n % 100)
+natural_behind n h =
+    let e : n / 10 / 10 ≡ n / 100 = omega arith in
+    let f : n / 10 % 10 ≡ n % 100 / 10 = omega arith in
+    let g : n % 10 ≡ n % 100 % 10 = omega arith in
+    rw (natural_more n (omega arith), natural_more (n / 10) (omega arith), append_assoc, e, f, g) refl
+
+pub two_more : (n : ℕ) → 100 ≤ n → length (natural n) ≡ length (natural (n / 100)) + 2
+two_more n h = rw (natural_behind n h, length-append) refl
+
+pub two_at_least : (n : ℕ) → 10 ≤ n → 2 ≤ length (natural n)
+two_at_least n h =
+    elim (dec_lt n 100) [
+      | yes s ↦ rw (natural_two n h s) (omega arith)
+      | no b ↦ omega (arith, two_more n (omega arith))
     ]

@@ -1,3 +1,4 @@
+pub mod Prepending
 pub mod Writing
 pub mod Decimal
 pub mod Signs

@@ -4,7 +4,8 @@ use mathlib.Core.List.{List, [], ◌++◌, append-nil, append_assoc}
 use Prim.Native.Nat.{ℕ, ◌+◌, ◌-◌, ◌≤◌}
 use native.Mathlib.Omega.{arith}
 use lib.ListN.{length, take, drop, length-append, length-drop, drop_of_length-le}
-use lib.Seq.{take-length, take_all, take_at, drop_at, drop-drop}
+use Rattle.std.proofs.Common.{take-append-drop}
+use lib.Seq.{length-take-le, take-length, take_all, take_at, drop_at, drop-drop}
 use Rattle.io.specs.Counts.{IsPrefixLen}
 use Rattle.io.proofs.Counting.{prefix_len_of_le}
 use Rattle.writers.specs.Written.{written}
@@ -19,6 +20,11 @@ none = record { left = refl; count = refl }
 pub copied : {p xs ys : List ℕ} {n : ℕ} → n ≡ length p → ys ≡ take (length p) p ++ drop (length p) xs → Wrote p xs ys n
 unfolding written
 copied {p} e f = record { left = rw (take-length p) at f; count = e }
+
+-- what stands in front may stay
+pub kept : (n : ℕ) (xs : List ℕ) → n ≤ length xs → Wrote (take n xs) xs xs n
+unfolding written
+kept n xs h = let e = length-take-le n xs h in record { left = rw (e, take-append-drop) refl; count = sym e }
 
 -- the bytes stand in front
 pub stored : {p xs ys : List ℕ} {n : ℕ} → n ≡ length p → ys ≡ p ++ drop (length p) xs → Wrote p xs ys n
@@ -38,6 +44,10 @@ module _ {p xs ys : List ℕ} {n : ℕ} (f : Wrote p xs ys n) where
   pub within : n ≤ length ys
   unfolding written
   within = rw (f.left, length-append) (omega (arith, f.count))
+
+  -- so is what is lent to the next writer
+  pub left_room : length (take (length ys - n) (drop n ys)) ≡ length xs - n
+  left_room = rw (take_all (length ys - n) (drop n ys) (omega (arith, length-drop n ys)), behind, length-drop, f.count) refl
 
 -- one writer filled n bytes, and another the front of `&mut out[n..]`
 pub next : {p xs ys q zs : List ℕ} {n m : ℕ} → Wrote p xs ys n → Wrote q (take (length ys - n) (drop n ys)) zs m

@@ -1,1 +1,2 @@
+pub mod Prepended
 pub mod Wrote

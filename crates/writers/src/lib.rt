@@ -2,12 +2,12 @@
 // A text in memory of its own, and what is put at its end: bytes, numbers and names.
 ghost use Rattle.std.specs.Prelude.{◌≡◌, ◌+◌, ◌*◌, ◌<◌, ◌≤◌, ℕ, ℤ, List, [], ◌++◌, pos, length, take};
 ghost use Rattle.io.specs.Counts.{IsPrefixLen};
-ghost use Rattle.writers.specs.Text.{digit as Text·digit, natural as Text·natural, decimal, unfilled, hexadecimal};
+ghost use Rattle.writers.specs.Text.{digit as Text·digit, natural, decimal, unfilled, hexadecimal};
 ghost use Rattle.writers.specs.inner.Wrote.{Wrote};
 
 use std::marker::Model;
 
-// A text of at most N bytes.
+// A text of at most N bytes, in fixed memory: no `Vec`, since nothing is on the heap.
 #[derive(Drop)]
 pub struct Text<const N: usize> {
     bytes: [u8; N],
@@ -56,7 +56,8 @@ impl<const N: usize> Text<N> {
         ensures written { self.new ≡ self.old ++ decimal (Z.value z) }
         ensures room { length self.new ≤ length self.old + 20 }
     {
-        self.put_bytes(z.digits().as_slice());
+        let all = &mut self.bytes[..];
+        self.len += z.write(&mut all[self.len..]);
     }
 
     // The two hexadecimal digits of each byte.
@@ -71,6 +72,7 @@ impl<const N: usize> Text<N> {
     }
 
     // The hexadecimal digits of a name without its filling.
+    #[tactic(auto, using(crate::proofs::Names::unfilled_front))]
     pub fn put_name(&mut self, name: &[u8])
         requires { length self.old + 2 * length name.now ≤ N }
         ensures written { self.new ≡ self.old ++ hexadecimal (unfilled name.now) }
@@ -84,22 +86,25 @@ impl<const N: usize> Text<N> {
 pub trait Number: Copy {
     ghost value: { Self → ℤ };
 
-    // The number in decimal without leading zeros, a minus before a negative one.
-    fn digits(self) -> Text<20>
-        ensures { result ≡ decimal (value self) };
+    // The number in decimal without leading zeros, a minus before a negative one, at the front of the buffer.
+    // Returns how many bytes these are.
+    fn write(self, out: &mut [u8]) -> usize
+        requires { 20 ≤ length out.old }
+        ensures wrote { Wrote (decimal (value self)) out.old out.new result }
+        ensures room { result ≤ 20 };
 }
 
 impl Number for i64 {
     ghost value = { λ z. z };
 
     #[tactic(auto, unfolding(crate::specs::Text::decimal, crate::specs::Text::ascii))]
-    fn digits(self) -> Text<20> {
-        let mut text = Text::new();
-        if self < 0 {
-            text.put_bytes(b"-");
+    fn write(self, out: &mut [u8]) -> usize {
+        if 0 <= self {
+            return write_natural(self.unsigned_abs(), out);
         }
-        text.put_bytes(natural(self.unsigned_abs()).as_slice());
-        text
+        let mut n = put(b"-", out);
+        n += write_natural(self.unsigned_abs(), &mut out[n..]);
+        n
     }
 }
 
@@ -107,19 +112,27 @@ impl Number for usize {
     ghost value = { pos };
 
     #[tactic(auto, unfolding(crate::specs::Text::decimal))]
-    fn digits(self) -> Text<20> {
-        natural(self as u64)
+    fn write(self, out: &mut [u8]) -> usize {
+        write_natural(self as u64, out)
     }
 }
 
-// n in decimal without leading zeros. By hand: `write!` asks for a `fmt::Write` with errors, which is no plainer.
-#[tactic(auto, using(crate::proofs::Decimal::natural_digit, crate::proofs::Decimal::natural_more))]
-fn natural(n: u64) -> Text<20>
-    ensures { result ≡ Text·natural n }
+// n in decimal without leading zeros, two digits at a time. By hand: `write!` asks for a `fmt::Write` with errors, which is no plainer.
+fn write_natural(n: u64, out: &mut [u8]) -> usize
+    requires { length (natural n) ≤ length out.old }
+    ensures { Wrote (natural n) out.old out.new result }
 {
-    let mut digits = if n < 10 { Text::new() } else { natural(n / 10) };
-    digits.put_bytes(&[digit((n % 10) as u8)]);
-    digits
+    if n < 10 {
+        return put(&[digit(n as u8)], out);
+    }
+    let last = (n % 100) as u8;
+    let pair = [digit(last / 10), digit(last % 10)];
+    if n < 100 {
+        return put(&pair, out);
+    }
+    let mut front = write_natural(n / 100, out);
+    front += put(&pair, &mut out[front..]);
+    front
 }
 
 // The digit for a number below 16. `char::from_digit` gives an Option of a wider type, which is no plainer.
@@ -139,7 +152,8 @@ pub fn used(name: &[u8]) -> usize
     name.iter().position(|b| *b == 0).unwrap_or(name.len())
 }
 
-// All of the bytes at the front of the buffer. Returns how many these are.
+// All of the bytes at the front of the buffer. Returns how many these are. A count and no slice: where a slice of the
+// buffer is handed back, a contract can't say what the buffer holds.
 pub fn put(bytes: &[u8], out: &mut [u8]) -> usize
     requires { length bytes.now ≤ length out.old }
     ensures { Wrote bytes.now out.old out.new result }

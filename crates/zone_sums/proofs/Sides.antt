@@ -9,7 +9,7 @@ use lib.ListN.{get_or}
 use mir.Syntax.{w64}
 use mir.Val.{to_z, SFits}
 use Rattle.integers.specs.Sum.{sum_to}
-use Rattle.integers.proofs.Machine.{Num, Op, rd, abs_fits, num_is, num_u, sub}
+use Rattle.integers.proofs.Machine.{Num, Op, rd, num_is, num_u, sub}
 use Rattle.integers.proofs.Sums.{sum_same, sum_abs}
 use Rattle.layout.specs.declared.Layout.{Layout}
 use Rattle.records.specs.declared.Place.TheVariants.{Proxy, Line}
@@ -22,6 +22,7 @@ use Rattle.zone_sums.specs.ByZone.{cells}
 use Rattle.zone_sums.specs.inner.Ledger.{sum_at, Sums, Small, amount_at, net_at, total, Held, figure_at}
 use Rattle.zone_sums.proofs.Cells.{cell_at, cells_same, cells_held}
 use Rattle.zone_sums.proofs.Laws.{outputs_are, imports_are, exports_are, loads_are, proxy_imports_are, proxy_exports_are, net_at_most, total_num}
+use Rattle.zone_sums.proofs.Bookings.{small_of}
 
 -- what is made of two arrays of sums, p and m: xs the figures of the zones, x their sum, as the calls returned them
 module _ {p m : List ℕ} {zones : ℕ} (few : zones ≤ 32) (sp : Small p) (sm : Small m) {xs : List ℤ} (exs : xs ≡ cells (net_at p m) zones) where
@@ -31,11 +32,11 @@ module _ {p m : List ℕ} {zones : ℕ} (few : zones ≤ 32) (sp : Small p) (sm 
   net_num : {x : ℤ} → x ≡ sum_to (figure_at xs) zones → Num (rd x) (sum_to (figure_at xs) zones) 65536000000
   net_num {x = x} ex = num_is x (sum_to (figure_at xs) zones) 65536000000 ex (omega (arith, sum_abs (figure_at xs) 2048000000 zones (λ z l. held.most z (omega arith)))) (lit< tt)
 
-  final_op : {x y : ℤ} → x ≡ sum_to (figure_at xs) zones → y ≡ pos (get_or m 0 0) → Op (rd x -ℤ rd y) (sum_to (figure_at xs) zones -ℤ pos (get_or m 0 0)) 66560000000
-  final_op {y = y} ex ey = sub (net_num ex) (num_is y (pos (get_or m 0 0)) 1024000000 ey (sm.most 0 (omega arith)) (lit< tt)) (lit< tt)
+  final_op : {x : ℤ} → x ≡ sum_to (figure_at xs) zones → Op (rd x -ℤ to_z w64 (get_or m 0 0)) (sum_to (figure_at xs) zones -ℤ pos (get_or m 0 0)) 66560000000
+  final_op ex = sub (net_num ex) (num_u (get_or m 0 0) 1024000000 (sm.most 0 (omega arith)) (lit< tt)) (lit< tt)
 
-  pub final_fits : {x y : ℤ} → x ≡ sum_to (figure_at xs) zones → y ≡ pos (get_or m 0 0) → SFits w64 (rd x -ℤ rd y)
-  final_fits ex ey = (final_op ex ey).fits
+  pub final_fits : {x : ℤ} → x ≡ sum_to (figure_at xs) zones → SFits w64 (rd x -ℤ to_z w64 (get_or m 0 0))
+  final_fits ex = (final_op ex).fits
 
 -- one side: at each zone g before anything is taken off and f after it; and what the proxies take off
 pub record Side (p m : List ℕ) (zones : ℕ) (g f : ℕ → ℤ) (proxies : ℤ) : Type 0 where
@@ -62,8 +63,8 @@ module _ {p m : List ℕ} {zones : ℕ} {g f : ℕ → ℤ} {proxies : ℤ} (d :
       pub net-is : rd x ≡ sum_to f zones
       net-is = (net_num d.few d.plus_small d.minus_small exs ex).is ∙ sum_is
 
-      pub final-is : {y : ℤ} → y ≡ pos (get_or m 0 0) → rd (rd x -ℤ rd y) ≡ sum_to f zones -ℤ proxies
-      final-is ey = (final_op d.few d.plus_small d.minus_small exs ex ey).num.is ∙ rw (sum_is, d.at_proxies)
+      pub final-is : rd (rd x -ℤ to_z w64 (get_or m 0 0)) ≡ sum_to f zones -ℤ proxies
+      final-is = (final_op d.few d.plus_small d.minus_small exs ex).num.is ∙ rw (sum_is, d.at_proxies)
 
 -- of an accepted sheet
 module _ (s : List ℕ) (l : Layout) (e : read_sheet s ≡ Accepted l) where
@@ -73,7 +74,10 @@ module _ (s : List ℕ) (l : Layout) (e : read_sheet s ≡ Accepted l) where
   pub few_zones : l.zones ≤ 32
   few_zones = omega (arith, (counts s l e).zones, is_valid.zones_most)
 
-  module _ {p m : List ℕ} (sp : Small p) (sm : Small m) where
+  pub small : (ledger : Ledger) (sums : List ℕ) → Sums (content_of s) ledger sums → Small sums
+  small = small_of (content_of s) is_valid
+
+  module _ (p m : List ℕ) where
     -- what is taken off at each zone stands in the second ledger
     side : {plus minus : Ledger} (g f taken : ℕ → ℤ) {proxies : ℤ} → Sums (content_of s) plus p → Sums (content_of s) minus m →
         ((z : ℕ) → z < l.zones → sum_at (content_of s) plus (z + 1) ≡ g z) →
@@ -87,8 +91,8 @@ module _ (s : List ℕ) (l : Layout) (e : read_sheet s ≡ Accepted l) where
         let gross_at : (z : ℕ) → z < l.zones → pos (get_or p (z + 1) 0) ≡ g z = λ z k. hp.sum (z + 1) (number z k) ∙ plus-is z k in
         record {
           few = few_zones;
-          plus_small = sp;
-          minus_small = sm;
+          plus_small = small plus p hp;
+          minus_small = small minus m hm;
           gross_at = gross_at;
           net_at = λ z k. ap₂ (λ (x y : ℤ). x -ℤ y) (gross_at z k) (hm.sum (z + 1) (number z k) ∙ minus_is z) ∙ less z;
           at_proxies = hm.sum 0 (omega arith) ∙ proxies-are;

@@ -1,4 +1,5 @@
-// A ledger's sums by number: what they have at a zone, at all zones and for the proxies, and zone by zone less another's.
+// A ledger's sums by number: what they have at a zone, at all zones and for the proxies, and zone by zone less
+// another's.
 ghost use Rattle.std.specs.Prelude.{◌≡◌, ◌≤◌, ◌<◌, pos, get_or};
 ghost use Rattle.zone_sums.specs.ByZone.{cells};
 ghost use Rattle.zone_sums.specs.inner.Ledger.{Small, amount_at, net_at, total};
@@ -33,7 +34,7 @@ impl ZoneSums {
         self.sums[0].cast_signed()
     }
 
-    // At all zones.
+    // At all zones. zones: how many of them the sheet has, since memory is fixed.
     pub fn total(&self, zones: usize) -> i64
         requires { zones ≤ 32 }
         ensures { result ≡ total self.now.sums zones }
@@ -41,7 +42,8 @@ impl ZoneSums {
         sums::sum_to(zones, |z| self.amount_at(z))
     }
 
-    // What one has more than the other, zone by zone.
+    // What one has more than the other, zone by zone, and zeros behind the sheet's zones: memory is fixed.
+    // By index: an iterator would go over the cells and two ledgers at once, which is no plainer.
     pub fn reduced(&self, minus: &ZoneSums, zones: usize) -> [i64; 32]
         requires { zones ≤ 32 }
         ensures { result ≡ cells (net_at self.now.sums minus.now.sums) zones }

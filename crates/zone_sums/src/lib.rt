@@ -1,5 +1,6 @@
 #![tactic(auto)]
-// A sheet's powers by zone: loads with losses, outputs, imports or exports, each summed by zone, and one less another zone by zone.
+// A sheet's powers by zone: loads with losses, outputs, imports or exports, each summed by zone, and one less another
+// zone by zone.
 mod by_number;
 
 ghost use Rattle.std.specs.Prelude.{◌≡◌, ◌≤◌, ◌<◌, ℕ};
@@ -31,6 +32,7 @@ fn number_of(place: Place) -> usize
 }
 
 // The sums of n bookings, by number, in one pass.
+// A loop: an iterator's `fold` would hand the array of sums from booking to booking, which is no plainer.
 fn sum_up<F: Fn(usize) -> Booking>(n: usize, booking: F) -> ZoneSums
     requires few { n ≤ 256 }
     requires calls { (i : ℕ) → i < n → F.pre booking i }
@@ -81,6 +83,7 @@ pub fn outputs(sheet: &AcceptedSheet<'_>) -> ZoneSums
     )
 }
 
+// Imports and exports alike: one function over both would take the field by a closure more, which is no plainer.
 pub fn imports(sheet: &AcceptedSheet<'_>) -> ZoneSums
     ensures { Sums (content_of sheet.now.bytes.now) Imports result.sums }
 {
@@ -117,7 +120,7 @@ pub fn exports(sheet: &AcceptedSheet<'_>) -> ZoneSums
     )
 }
 
-// The sum of the zones' figures.
+// The sum of the zones' figures. zones: how many of them the sheet has, since memory is fixed.
 pub fn net(figures: &[i64; 32], zones: usize) -> i64
     requires { (zones ≤ 32) × Held figures.now }
     ensures { result ≡ sum_to (figure_at figures.now) zones }

@@ -14,7 +14,7 @@ pub returns-in_err-row-2 : goal.returns-in_err-row-2
 unfolding balance_row
 returns-in_err-row-2 c x el eg ez =
     let gross : (lt_z (pos 2000000) (gross_load x) || lt_z (pos 2000000) (gross_output x)) ≡ false = grind (arith, common_steps) in
-    let zones : none_below_zero x (zone_load x) ≡ false = grind (arith, common_steps, loads_judged x c.args.load.now c.args.zones c.requires el ez) in
+    let zones : none_below_zero x (zone_load x) ≡ false = grind (arith, common_steps, loads_judged x c.args.load.now c.args.zones c.requires el ez _ c.none_below_zero.ensures) in
     let is : row_of c.from_residual-in_err-row-2.result ≡ 17 = grind (arith, common_steps) in
     rw (gross, zones) is
 
@@ -22,7 +22,7 @@ pub returns-in_err-row-3 : goal.returns-in_err-row-3
 unfolding balance_row
 returns-in_err-row-3 c x el eg ez =
     let gross : (lt_z (pos 2000000) (gross_load x) || lt_z (pos 2000000) (gross_output x)) ≡ false = grind (arith, common_steps) in
-    let zones : none_below_zero x (zone_load x) ≡ true = grind (arith, common_steps, loads_judged x c.args.load.now c.args.zones c.requires el ez) in
+    let zones : none_below_zero x (zone_load x) ≡ true = grind (arith, common_steps, loads_judged x c.args.load.now c.args.zones c.requires el ez _ c.none_below_zero.ensures) in
     let final : le_z (final_load x) (pos 0) ≡ true = grind (arith, common_steps) in
     let is : row_of c.from_residual-in_err-row-3.result ≡ 18 = grind (arith, common_steps) in
     rw (gross, zones, final) is
@@ -31,16 +31,16 @@ pub returns-in_err-row-4 : goal.returns-in_err-row-4
 unfolding balance_row
 returns-in_err-row-4 c x el eg ez =
     let gross : (lt_z (pos 2000000) (gross_load x) || lt_z (pos 2000000) (gross_output x)) ≡ false = grind (arith, common_steps) in
-    let zones : none_below_zero x (zone_load x) ≡ true = grind (arith, common_steps, loads_judged x c.args.load.now c.args.zones c.requires el ez) in
+    let zones : none_below_zero x (zone_load x) ≡ true = grind (arith, common_steps, loads_judged x c.args.load.now c.args.zones c.requires el ez _ c.none_below_zero.ensures) in
     let final : le_z (final_load x) (pos 0) ≡ false = grind (arith, common_steps) in
-    let generation : none_below_zero x (zone_generation x) ≡ false = grind (arith, common_steps, generation_judged x c.args.generation.now c.args.zones c.requires eg ez) in
+    let generation : none_below_zero x (zone_generation x) ≡ false = grind (arith, common_steps, generation_judged x c.args.generation.now c.args.zones c.requires eg ez _ c.none_below_zero-2.ensures) in
     let is : row_of c.from_residual-in_err-row-4.result ≡ 19 = grind (arith, common_steps) in
     rw (gross, zones, final, generation) is
 
 pub returns-in_err-row-5 : goal.returns-in_err-row-5
 unfolding balance_row
-returns-in_err-row-5 c x el eg ez = grind (arith, common_steps, loads_judged x c.args.load.now c.args.zones c.requires el ez, generation_judged x c.args.generation.now c.args.zones c.requires eg ez, zero_bits)
+returns-in_err-row-5 c x el eg ez = grind (arith, common_steps, loads_judged x c.args.load.now c.args.zones c.requires el ez _ c.none_below_zero.ensures, generation_judged x c.args.generation.now c.args.zones c.requires eg ez _ c.none_below_zero-2.ensures, zero_bits)
 
 pub returns : goal.returns
 unfolding balance_row
-returns c x el eg ez = grind (arith, common_steps, loads_judged x c.args.load.now c.args.zones c.requires el ez, generation_judged x c.args.generation.now c.args.zones c.requires eg ez, zero_bits)
+returns c x el eg ez = grind (arith, common_steps, loads_judged x c.args.load.now c.args.zones c.requires el ez _ c.none_below_zero.ensures, generation_judged x c.args.generation.now c.args.zones c.requires eg ez _ c.none_below_zero-2.ensures, zero_bits)

@@ -5,29 +5,21 @@ use Rattle.due_factors.proofs.ByTarget.{some-each, stands, standing-flowgate, st
 use Rattle.due_factors.proofs.standing_of.Goals as goal
 
 pub returns-then-k-each : goal.returns-then-k-each
-returns-then-k-each c =
-    let v = c.before.before in
-    sym (standing-flowgate v.before.args.n v.before.args.k (rw v.every-each.ensures.0 at c.if-k-each.true))
+returns-then-k-each c = sym (standing-flowgate c.args.n c.args.k (rw c.every-each.ensures.0 at c.if-k-each.true))
 
 pub nonzero_div-result : goal.nonzero_div-result
 nonzero_div-result c =
-    let e = c.before in
-    let v = e.before.before in
-    omega (arith, v.every-each.ensures.0, some-each v.before.args.n v.before.args.k (rw v.every-each.ensures.0 at e.if-k-each.false) v.before.requires.1)
+    let some = some-each c.args.n c.args.k (rw c.every-each.ensures.0 at c.if-k-each.false) c.requires.1 in
+    omega (arith, c.every-each.ensures.0, some)
 
 pub overflow_add-result : goal.overflow_add-result
 overflow_add-result c =
-    let e = c.before in
-    let v = e.before.before in
-    let a = v.before.args in
-    let s = rw (standing-par a.n a.k (rw v.every-each.ensures.0 at e.if-k-each.false)) at (stands a.n a.k v.before.requires.1) in
-    rw v.every-each.ensures.0 (omega (arith, s.known, v.before.requires.0.pars_most))
+    let a = c.args in
+    let s = rw (standing-par a.n a.k (rw c.every-each.ensures.0 at c.if-k-each.false)) at (stands a.n a.k c.requires.1) in
+    rw c.every-each.ensures.0 (omega (arith, s.known, c.requires.0.pars_most))
 
 pub nonzero_rem-result : goal.nonzero_rem-result
 nonzero_rem-result c = nonzero_div-result c
 
 pub returns : goal.returns
-returns c =
-    let e = c.before in
-    let v = e.before.before in
-    rw v.every-each.ensures.0 (sym (standing-par v.before.args.n v.before.args.k (rw v.every-each.ensures.0 at e.if-k-each.false)))
+returns c = rw c.every-each.ensures.0 (sym (standing-par c.args.n c.args.k (rw c.every-each.ensures.0 at c.if-k-each.false)))

@@ -12,5 +12,5 @@ returns-in-Err c =
 
 pub returns-in-Ok : goal.returns-in-Ok
 returns-in-Ok c =
-    let s = rw c.in-Ok.ensures.0 at c.settle_sheet-settled.ensures in
+    let s = rw c.in-Ok.ensures.0 at c.interval_or_refusal-settled.ensures in
     promised _ _ _ (c.behind_records.ensures _ s ∙ sym (explained_is _ _ ∙ ap (by_outcome _ _ _) c.in-Ok.ensures.1))

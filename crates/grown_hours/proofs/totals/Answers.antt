@@ -1,5 +1,4 @@
 -- `totals` keeps its promise.
-use borrow.Author.Rules.{rules}
 use Rattle.grown_hours.proofs.Kept.{kept}
 use Rattle.grown_hours.proofs.totals.Goals as goal
 

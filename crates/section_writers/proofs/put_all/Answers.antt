@@ -8,4 +8,4 @@ loop-record-init g c = begun
 pub loop-record-preserved : goal.loop-record-preserved
 loop-record-preserved g c =
     let w = c.put-at.ensures in
-    grown c.loop-record.invariant c.loop-record-test.true c.record-item.is w.wrote w.value w.returns
+    grown c.loop-record.invariant c.loop-record-test.true {zs = c.put-at.new.out} c.record-item.is w.wrote w.value w.returns

@@ -12,7 +12,7 @@ use Rattle.sheet.proofs.good_factor.Goals as goal
 pub returns : goal.returns
 returns c =
     let f = c.sbe16_at in
-    let bytes : (i : ℕ) → byte_at c.args.s.now i < 256 = λ i. omega (arith, c.shared_slice_known-2-1.given i) in
+    let bytes : (i : ℕ) → byte_at c.args.s.now i < 256 = λ i. omega (arith, c.type_inv.s i) in
     λ e.
     let a = both _ _ e in
     let b = both _ _ a.0 in

@@ -64,7 +64,7 @@ returns c =
     let a = c.args in
     let n = c.good_factors-n.result in
     let r = run-there _ _ _ _ _ _ c.requires c.counts_in-counts.ensures c.due_count.ensures c.if-due_count-l.false in
-    let is6 = rw c.code.ensures at c.if-last-code.false in
+    let is6 : a.last ≡ 6 = rw c.code.ensures at c.if-last-code.false in
     let d = rw c.counts_in-counts.ensures at c.due_at.ensures in
     let g = rw (c.key_of-key.ensures, d, rw c.counts_in-counts.ensures at c.more_of_run-most.ensures) at c.good_factors-n.ensures in
     (omega arith, rw is6 (run-passed a.s.now a.at a.l.now (rw is6 at c.requires) r n g.0 g.1), λ table t. rw is6 (listed_factors _ _ n table (rw is6 at t)))

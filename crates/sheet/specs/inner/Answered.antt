@@ -1,9 +1,6 @@
 -- What the reader's functions answer, as document 01 has it.
-use Rattle.std.specs.Prelude.{ℕ, ◌≡◌, Result, Ok, Err}
+use Rattle.std.specs.Prelude.{Result, Ok, Err}
 use Rattle.rows.specs.Refusals.{number}
-use Rattle.rows.specs.declared.Refusal.{Refusal}
-use Rattle.record_table.specs.Kinds.{code}
-use Rattle.record_table.specs.declared.kind.Kind.{Kind}
 use Rattle.layout.specs.declared.Layout.{Layout}
 use Rattle.sheet.specs.declared.Refused.{Refused}
 use Rattle.sheet.specs.Sheet.{Outcome}
@@ -12,7 +9,3 @@ use Rattle.sheet.specs.Sheet as sheet
 abbrev pub outcome_of : Result Layout Refused → Outcome
 outcome_of (Ok layout) = sheet.Accepted layout
 outcome_of (Err refused) = sheet.Refused (number refused.refusal) refused.place
-
--- a kind in an answer is the one that the byte names
-abbrev pub Named : ℕ → Result Kind Refusal → Type 0
-Named byte answer = (kind : Kind) → answer ≡ Ok kind → code kind ≡ byte

@@ -3,6 +3,7 @@ use Prim.Native.Nat.{ℕ, ◌<◌}
 use mathlib.Core.Path.{◌≡◌, sym, ◌∙◌}
 use Rattle.std.specs.Prelude.{List}
 use native.Mathlib.Omega.{arith}
+use borrow.Author.Rules.{rules}
 use mir.Facts.{to_z-of_z}
 use mir.Val.{SFits}
 use mir.Syntax.{w16, w64}
@@ -37,7 +38,7 @@ returns c =
     let v = counts_in a.sheet.now.layout in
     let e : n ≡ place_in (due_of a.sheet.now.layout) (key a.target (subject_code a.subject) a.i) = rw (← c.counts_in.ensures) c.place_of-n.ensures in
     let below = rw (← e) at (place_below v a.target (subject_code a.subject) a.i c.requires) in
-    let told : SFits w16 c.factor_of-f.result.factor = record { sfits = c.struct_told-1.given.1.1.1.0.1 } in
+    let told : SFits w16 c.factor_of-f.result.factor = search rules in
     let holds = rw (← e) at (place_holds v a.target (subject_code a.subject) a.i c.requires) in
     rw (to_z-of_z {w = w64} {z = c.from.result} (record { sfits = c.from.type_inv }), c.from.ensures, to_z-of_z {w = w16} told, c.factor_of-f.ensures, c.body_at.ensures.0)
     (sym (factor_is _ _ p a.target (subject_code a.subject) a.i n below holds ∙ rw (factor-there _ _ p n (there _ _ _ _ _ _ p c.requires e))))

@@ -1,12 +1,12 @@
 -- `put_sheet` meets its contract.
 use Rattle.writers.proofs.Writing.{next, renamed}
-use Rattle.sheet_writer.proofs.Given.{given_bytes}
+use Rattle.sheet_writer.proofs.Given.{content_bytes}
 use Rattle.sheet_writer.proofs.put_sheet.Goals as goal
 
 pub returns-clause-wrote : goal.returns-clause-wrote
 returns-clause-wrote c =
     let w = next (next c.put_grid-n.ensures.wrote c.put_flows-n.ensures.wrote) c.put_lake-n.ensures.wrote in
-    renamed (given_bytes c.args.d.now)
+    renamed (content_bytes c.args.d.now)
     (rw (
       c.first-zones.ensures.value,
       c.first-units.ensures.value,

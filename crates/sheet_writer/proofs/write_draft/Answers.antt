@@ -36,7 +36,7 @@ pub returns-in-Err : goal.returns-in-Err
 returns-in-Err c =
     let w = c.put_sheet-n.ensures in
     let number = number_is c.args.d w.wrote w.returned w.few c.in-Err.ensures in
-    rw c.number.ensures (refused (given c.args.d) c.args.out.now _ number (refuses c.in-Err.refusal refl))
+    rw (← c.number.ensures) at (refused (given c.args.d) c.args.out.now _ number (refuses c.in-Err.refusal refl))
 
 pub returns-then-out-sheet : goal.returns-then-out-sheet
 returns-then-out-sheet c =
@@ -44,7 +44,7 @@ returns-then-out-sheet c =
     let number = number_is c.args.d w.wrote w.returned w.few c.in_default.ensures in
     let d = given c.args.d in
     let e = sym number in
-    rw c.number-then-out-sheet.ensures (too_short d c.args.out.now e (omega (arith, c.if-out-sheet.true, ap length (front w.wrote), ap (λ (x : Content). length (sheet_bytes x)) (unmarked d e))))
+    rw (← c.number-then-out-sheet.ensures) at (too_short d c.args.out.now e (omega (arith, c.if-out-sheet.true, ap length (front w.wrote), ap (λ (x : Content). length (sheet_bytes x)) (unmarked d e))))
 
 pub returns : goal.returns
 returns c =

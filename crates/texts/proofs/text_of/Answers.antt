@@ -10,5 +10,5 @@ use Rattle.texts.proofs.text_of.Goals as goal
 pub returns : goal.returns
 returns c =
     let s = c.split.ensures in
-    let e = nth_from_yields_List c.nth.result _ c.args.n c.nth.ensures.ran (YieldsList-from_slice_split _ zero_byte c.args.texts.now s.rest s.done s.closure (λ x b q k. search (rules, tests))) in
+    let e = nth_from_yields_List c.nth.result _ _ c.nth.ensures.ran (YieldsList-from_slice_split _ zero_byte c.args.texts.now s.rest s.done s.closure (λ x b q k. search (rules, tests))) in
     ap (λ x. x.now) c.unwrap_or.ensures ∙ pointed c.nth.result _ ∙ rw e (piece_is c.args.texts.now c.args.n)

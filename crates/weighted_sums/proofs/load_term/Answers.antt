@@ -5,7 +5,7 @@ use borrow.Author.Rules.{rules}
 use lib.Dec.{lit<}
 use Rattle.integers.proofs.Machine.{num_is}
 use Rattle.sheet.proofs.Accepted.{valid, counts}
-use Rattle.weighted_sums.proofs.Laws.{zone_asked, load_read, load_most, load_term_lem}
+use Rattle.weighted_sums.proofs.Laws.{zone_asked, load_read, load_most, load_term_is}
 use Rattle.weighted_sums.proofs.load_term.Goals as goal
 use Rattle.weighted_sums.proofs.load_term.Goals.{Start}
 
@@ -26,5 +26,5 @@ weigh-requires c =
 
 pub returns : goal.returns
 returns c =
-    let e = rw (load_term_lem _ _ c.args.sheet.now.accepted c.requires.0 c.args.target c.args.z c.requires.2) at c.weigh.ensures in
+    let e = rw (load_term_is _ _ c.args.sheet.now.accepted c.requires.0 c.args.target c.args.z c.requires.2) at c.weigh.ensures in
     search (rules, e)

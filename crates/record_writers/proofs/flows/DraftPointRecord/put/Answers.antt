@@ -11,10 +11,11 @@ use Rattle.record_writers.proofs.flows.DraftPointRecord.put.Goals as goal
 pub returns-clause-wrote : goal.returns-clause-wrote
 unfolding point_body
 returns-clause-wrote c =
+    let front = rw c.code.ensures at c.put_front-n.ensures.wrote in
     let place = renamed (ap (λ (b : ℕ). b ∷ []) c.place_byte.ensures) c.put-n-2.ensures.wrote in
     field
     (field
-    (field (field (field (field c.put_front-n.ensures.wrote c.put-n.ensures.wrote) place) c.put-n-3.ensures.wrote) c.put-n-4.ensures.wrote)
+    (field (field (field (field front c.put-n.ensures.wrote) place) c.put-n-3.ensures.wrote) c.put-n-4.ensures.wrote)
     c.put-n-5.ensures.wrote)
     c.put-n-6.ensures.wrote
 

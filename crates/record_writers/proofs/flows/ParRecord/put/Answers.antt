@@ -7,7 +7,9 @@ use Rattle.record_writers.proofs.flows.ParRecord.put.Goals as goal
 
 pub returns-clause-wrote : goal.returns-clause-wrote
 unfolding par_body
-returns-clause-wrote c = search (rules, field, signed32_as_is)
+returns-clause-wrote c =
+    let front = rw c.code.ensures at c.put_front-n.ensures.wrote in
+    field (field (field front c.put-n.ensures.wrote) (signed32_as_is (search rules) c.put-n-2.ensures.wrote)) (signed32_as_is (search rules) c.put-n-3.ensures.wrote)
 
 pub returns-clause-returns : goal.returns-clause-returns
 returns-clause-returns c = search (rules, par_returns)

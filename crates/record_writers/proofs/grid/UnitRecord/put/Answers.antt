@@ -7,7 +7,9 @@ use Rattle.record_writers.proofs.grid.UnitRecord.put.Goals as goal
 
 pub returns-clause-wrote : goal.returns-clause-wrote
 unfolding unit_body
-returns-clause-wrote c = search (rules, field)
+returns-clause-wrote c =
+    let front = rw c.code.ensures at c.put_front-n.ensures.wrote in
+    field (field front c.put-n.ensures.wrote) c.put-n-2.ensures.wrote
 
 pub returns-clause-returns : goal.returns-clause-returns
 returns-clause-returns c = search (rules, unit_returns)

@@ -7,7 +7,9 @@ use Rattle.record_writers.proofs.nameless.CirculationRecord.put.Goals as goal
 
 pub returns-clause-wrote : goal.returns-clause-wrote
 unfolding circulation_body
-returns-clause-wrote c = search (rules, first, signed32_as_is)
+returns-clause-wrote c =
+    let front = rw c.code.ensures at c.put-n.ensures.wrote in
+    first front (signed32_as_is (search rules) c.put-n-2.ensures.wrote)
 
 pub returns-clause-returns : goal.returns-clause-returns
 returns-clause-returns c = search (rules, circulation_returns)

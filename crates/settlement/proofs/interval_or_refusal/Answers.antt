@@ -1,4 +1,4 @@
--- `settle_sheet` meets its contract.
+-- `interval_or_refusal` meets its contract.
 use Prim.Native.Nat.{◌≤◌}
 use mathlib.Core.Path.{◌≡◌, sym, ap, subst}
 use lib.IntN.{ℤ, nat_abs}
@@ -9,7 +9,7 @@ use borrow.Author.Rules.{rules}
 use Rattle.entitlements.proofs.Answers.{value_within}
 use Rattle.settlement.specs.Settled.{by_list, after_sheet}
 use Rattle.std.specs.Prelude.{Err}
-use Rattle.settlement.proofs.settle_sheet.Goals as goal
+use Rattle.settlement.proofs.interval_or_refusal.Goals as goal
 
 pub settle_balance-requires : goal.settle_balance-requires
 settle_balance-requires c =
