@@ -107,7 +107,7 @@ impl Hour {
 
     // The hour with a settled interval, or the refusal's number beside the hour as it was.
     #[tactic(auto, unfolding(crate::specs::Hour::added, crate::specs::Hour::refusal_of), using(rows::proofs::Refusing::refuses))]
-    pub fn take(self, i: Interval) -> Changed
+    pub fn take(mut self, i: Interval) -> Changed
         ensures { result ≡ added self i }
     {
         if i.statement.refusal != 0 {
@@ -115,15 +115,18 @@ impl Hour {
         }
         match self.row_for(&i) {
             Err(refusal) => self.refusing(refusal.number()),
-            Ok(()) => Changed {
-                refusal: 0,
-                hour: self.with_interval(&i),
-            },
+            Ok(()) => {
+                self = self.with_interval(&i);
+                Changed {
+                    refusal: 0,
+                    hour: self,
+                }
+            }
         }
     }
 
     // The hour with the interval of a sheet and a list, or the refusal's number beside the hour as it was.
-    pub fn add(self, sheet: &[u8], list: &[u8]) -> Changed
+    pub fn add(mut self, sheet: &[u8], list: &[u8]) -> Changed
         ensures { result ≡ added self (interval (inputs sheet.now list.now)) }
     {
         let i = settlement::settle_interval(sheet, list);
