@@ -3,8 +3,8 @@
 the generation-to-load routine, which are read beside the schedule.
 
 A contract names definitions; a definition's file imports others. Every file so reached must stand in a
-crate's specs/ (specs/inner/ is for what only inner contracts cite), README's reading list must name each,
-and name no other, and say how many lines they have. Prints the files with their lines.
+crate's specs/, and no other (specs/inner/ is for what only inner contracts cite); README's reading list must name
+each, and name no other, and say how many lines they have. Prints the files with their lines.
 """
 import re
 import sys
@@ -54,6 +54,7 @@ ENTRY_POINTS = [
     ("transfers", "read_all"),
     ("transfers", "write_all"),
     ("files", "load"),
+    ("files", "load_pair"),
     ("files", "send"),
 ]
 OF_CRATE = re.compile(r"\buse Rattle\.(\w+)\.specs\.([\w.']+?)(?:\.\{([^}]*)\}| as (\S+?))?;?$", re.M)
@@ -112,6 +113,12 @@ def listed():
     return set(re.findall(r"crates/\w+/specs/[\w/]+\.antt", part))
 
 
+def outside():
+    """The spec files that stand outside specs/inner/, but for those that only declare others."""
+    found = ROOT.glob("crates/*/specs/*.antt")
+    return {str(p.relative_to(ROOT)) for p in found if p.name not in ("Lib.antt", "inner.antt")}
+
+
 def lines(path):
     """Lines of definitions: no blank ones, no comments, no imports."""
     return sum(
@@ -126,6 +133,7 @@ def main():
     wrong = [f"{p}: an entry point's contract rests on it, so it belongs into specs/" for p in believed if "/inner/" in p]
     wrong += [f"{p}: not in README's reading list" for p in believed - named]
     wrong += [f"{p}: in README's reading list, and no entry point's contract rests on it" for p in named - believed]
+    wrong += [f"{p}: only inner contracts cite it, so it belongs below specs/inner/" for p in outside() - believed]
     for path in sorted(believed):
         print(f"{lines(path):5} {path}")
     size = f"{sum(map(lines, believed))} lines of definitions in {len(believed)} files"

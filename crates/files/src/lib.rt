@@ -8,7 +8,6 @@ ghost use Rattle.transfers.specs.Transfer.{bytes_of};
 ghost use Rattle.files.specs.Files.{Loaded, Holds, Sent, Written};
 ghost use Rattle.io.specs.Counts.{IsPrefixLen};
 
-pub use programs::answer_pair;
 use std::env::{Env, FillError};
 use std::fs::{Files, OpenFile};
 use std::io::{ErrorKind, Read, Write};
@@ -60,19 +59,35 @@ fn read_opened<F: Read + Drop>(opened: io::Result<F>, buf: &mut [u8]) -> io::Res
 }
 
 impl<'a, E: Write> Teller<'a, E> {
-    // Reads the file of this name: how many bytes stand at the front of the buffer, no slice, as in `argument`. One
-    // that can't be opened or read whole counts as empty, and `program: name: why` is told.
-    pub fn load<R: Files>(&mut self, rt: &R, name: &[u8], buf: &mut [u8]) -> usize
+    // How many bytes of what was opened stand at the front of the buffer. Where it was not opened or not read whole
+    // none count, and `program: name: why` is told.
+    #[tactic(auto, using(crate::proofs::Unopened::unopened_file))]
+    fn load_opened<F: Read + Drop>(
+        &mut self,
+        name: &[u8],
+        opened: io::Result<F>,
+        buf: &mut [u8],
+    ) -> usize
+        ensures bytes { MatchResult opened (λ file. Holds (F.remaining file) buf.new result) (λ error. result ≡ 0) }
         ensures loaded { Loaded (length buf.old) result }
         ensures prefix_len { IsPrefixLen result buf.new }
     {
-        match read_opened(open(rt, name), buf) {
+        match read_opened(opened, buf) {
             Ok(n) => n,
             Err(error) => {
                 self.tell(name, &error);
                 0
             }
         }
+    }
+
+    // Reads the file of this name: how many bytes stand at the front of the buffer, no slice, as in `argument`. One
+    // that can't be opened or read whole counts as empty, and `program: name: why` is told.
+    pub fn load<R: Files>(&mut self, rt: &R, name: &[u8], buf: &mut [u8]) -> usize
+        ensures loaded { Loaded (length buf.old) result }
+        ensures prefix_len { IsPrefixLen result buf.new }
+    {
+        self.load_opened(name, open(rt, name), buf)
     }
 }
 
@@ -103,7 +118,9 @@ fn stored<R: Files>(rt: &R, path: &str) -> io::Result<()> {
 
 impl<'a, E: Write> Teller<'a, E> {
     // Has what was written to a file stored; where that fails, `program: name: why` is told.
-    pub fn finish<R: Files>(&mut self, rt: &R, name: &[u8], path: &str) {
+    pub fn finish<R: Files>(&mut self, rt: &R, name: &[u8], path: &str)
+        ensures { self.new.program ≡ self.old.program }
+    {
         if let Err(error) = stored(rt, path) {
             self.tell(name, &error);
         }

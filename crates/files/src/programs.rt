@@ -1,5 +1,5 @@
-// What programs do with the files that they are handed: read them, have the answer printed, tell what fails.
-ghost use Rattle.std.specs.Prelude.{length};
+// What programs do with the files that they are handed: read them, tell what fails.
+ghost use Rattle.std.specs.Prelude.{◌≡◌, length};
 ghost use Rattle.files.specs.Files.{Loaded};
 ghost use Rattle.io.specs.Counts.{IsPrefixLen};
 
@@ -7,7 +7,7 @@ use crate::{STANDARD_OUTPUT, Teller, argument, argument_count};
 use std::env::Env;
 use std::fs::Files;
 use std::io::{Error, Write};
-use transfers::{Errno, write_all};
+use transfers::Errno;
 
 impl<'a, E: Write> Teller<'a, E> {
     // Reads the file that argument i names, as `load` does.
@@ -20,40 +20,34 @@ impl<'a, E: Write> Teller<'a, E> {
         self.load(rt, &name[..length], buf)
     }
 
+    // Reads the two files that are named, or sheet.bin and entitle.bin where none are: how many bytes stand at the
+    // front of each buffer.
+    pub fn load_pair<R: Env + Files>(
+        &mut self,
+        rt: &R,
+        sheet: &mut [u8],
+        list: &mut [u8],
+    ) -> (usize, usize)
+        ensures sheet_loaded { Loaded (length sheet.old) result.0 }
+        ensures sheet_prefix_len { IsPrefixLen result.0 sheet.new }
+        ensures list_loaded { Loaded (length list.old) result.1 }
+        ensures list_prefix_len { IsPrefixLen result.1 list.new }
+    {
+        if argument_count(rt) == 1 {
+            let n = self.load(rt, b"sheet.bin", sheet);
+            return (n, self.load(rt, b"entitle.bin", list));
+        }
+        let n = self.load_argument(rt, 1, sheet);
+        (n, self.load_argument(rt, 2, list))
+    }
+
     // Has what was printed stored, or tells why it was not printed.
-    pub fn finish_output<R: Files>(&mut self, rt: &R, printed: Result<(), Errno>) {
+    pub fn finish_output<R: Files>(&mut self, rt: &R, printed: Result<(), Errno>)
+        ensures { self.new.program ≡ self.old.program }
+    {
         match printed {
             Ok(()) => self.finish(rt, b"standard output", STANDARD_OUTPUT),
             Err(errno) => self.tell(b"standard output", &Error::from(errno)),
         }
     }
-}
-
-// Has the two files that are named answered on standard output, or sheet.bin and entitle.bin where none are; where the
-// arguments are others, the usage is told. A large buffer holds more than the longest sheet and its next record, and
-// more than the longest list and a byte. Host and teller are two parameters: the one is lent, the other changed.
-pub fn answer_pair<R, E, F>(rt: &R, teller: &mut Teller<E>, usage: &str, print: F)
-where
-    R: Env + Files,
-    E: Write,
-    F: FnOnce(&[u8], &[u8]) -> Result<(), Errno>,
-    requires { F.IsAlwaysCallable print }
-{
-    let mut sheet = io::large_buffer();
-    let mut list = io::large_buffer();
-    let (n, m) = match argument_count(rt) {
-        1 => (
-            teller.load(rt, b"sheet.bin", &mut sheet),
-            teller.load(rt, b"entitle.bin", &mut list),
-        ),
-        3 => (
-            teller.load_argument(rt, 1, &mut sheet),
-            teller.load_argument(rt, 2, &mut list),
-        ),
-        _ => {
-            let _written = write_all(&mut teller.errors, usage.as_bytes());
-            return;
-        }
-    };
-    teller.finish_output(rt, print(&sheet[..n], &list[..m]));
 }

@@ -1,5 +1,5 @@
 // The line on standard error that tells of a failure.
-ghost use Rattle.std.specs.Prelude.{◌+◌, ◌≤◌, length};
+ghost use Rattle.std.specs.Prelude.{◌+◌, ◌≡◌, ◌≤◌, length};
 ghost use Rattle.io.specs.Counts.{IsPrefixLen};
 ghost use Rattle.writers.specs.inner.Wrote.{Wrote};
 ghost use Rattle.files.specs.inner.Telling.{told};
@@ -49,7 +49,9 @@ pub struct Teller<'a, E> {
 impl<'a, E: Write> Teller<'a, E> {
     // `program: what: why`, the reason being the error's text. Names that are too long for the line are told without
     // the program's.
-    pub fn tell(&mut self, what: &[u8], error: &io::Error) {
+    pub fn tell(&mut self, what: &[u8], error: &io::Error)
+        ensures { self.new.program ≡ self.old.program }
+    {
         if self.program.len() > 64 || what.len() > 4096 {
             tell_line(&mut self.errors, what, error);
             return;

@@ -7,11 +7,14 @@ use hours::Hour;
 use std::io::Write;
 use transfers::Errno;
 
-const USAGE: &str = "usage: hour LIST SHEET..\n\
-    Adds the intervals of the sheets to an hour, in order, each settled against the\n\
-    entitlement list. Prints 'amount N' or 'refused N' for each sheet, then the\n\
-    hour's seconds, amount and payments. A file that can't be read whole counts as\n\
-    empty. Whatever fails is told on standard error; the exit status is always 0.\n";
+// One write for each line: where the stream of errors takes some of them, these are whole.
+const USAGE: [&str; 5] = [
+    "usage: hour LIST SHEET..\n",
+    "Adds the intervals of the sheets to an hour, in order, each settled against the\n",
+    "entitlement list. Prints 'amount N' or 'refused N' for each sheet, then the\n",
+    "hour's seconds, amount and payments. A file that can't be read whole counts as\n",
+    "empty. Whatever fails is told on standard error; the exit status is always 0.\n",
+];
 
 // The hour after a sheet whose line was printed. A large buffer holds more than the longest sheet and its next record.
 // Host and teller are two parameters, here and below: `main` lends the one, and the other is changed.
@@ -65,7 +68,9 @@ fn main(rt: HostRuntime) {
     };
     let count = files::argument_count(&rt);
     if count < 2 {
-        let _written = transfers::write_all(&mut teller.errors, USAGE.as_bytes());
+        for line in USAGE {
+            let _written = transfers::write_all(&mut teller.errors, line.as_bytes());
+        }
     } else {
         hour_of(&rt, &mut teller, count);
     }

@@ -2,7 +2,7 @@
 // Where the records of a sheet stand. The sheet stays as it is: a layout says how many records there are of each kind.
 ghost use Rattle.std.specs.Prelude.{◌≡◌, true, ◌+◌, ◌*◌, ◌≤◌, ◌<◌, ◌^◌, length, drop};
 ghost use Rattle.record_table.specs.Table.{kind_of, body_length, body_in};
-ghost use Rattle.record_table.specs.Kinds.{code};
+ghost use Rattle.record_table.specs.inner.Kinds.{code};
 ghost use Rattle.record_rows.specs.Rows.{repeats};
 ghost use Rattle.record_table.specs.inner.Sizes.{size, most_size};
 ghost use Rattle.layout.specs.inner.Places.{counts_in, one, count, counted, first_of, start_of, extent, body_at, content_at, Allowed};

@@ -4,7 +4,7 @@ ghost use Rattle.std.specs.Prelude.{◌≡◌, not};
 ghost use Rattle.rows.specs.Rows.{row};
 ghost use Rattle.rows.specs.Refusals.{row_of};
 ghost use Rattle.names.specs.Names.{name_ok};
-ghost use Rattle.record_table.specs.Kinds.{Named};
+ghost use Rattle.record_table.specs.inner.Kinds.{Named};
 ghost use Rattle.records.specs.Content.{bears};
 ghost use Rattle.due_factors.specs.Due.{due_list};
 ghost use Rattle.due_factors.specs.inner.Places.{Few};

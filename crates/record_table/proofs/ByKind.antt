@@ -11,7 +11,7 @@ use Rattle.integers.proofs.Cases.{below_or}
 use Rattle.rows.proofs.NotMet.{both}
 use Rattle.record_table.specs.Table.{by_kind, total, body_length, KindRow, no_kind, kind_rows, kind_of, last_kind}
 use Rattle.record_table.specs.inner.Sizes.{size, most_size}
-use Rattle.record_table.specs.Kinds.{code}
+use Rattle.record_table.specs.inner.Kinds.{code}
 use Rattle.record_table.specs.declared.kind.Kind.{Kind}
 use Rattle.record_table.specs.declared.kind.Kind.TheVariants as kind
 

@@ -1,7 +1,7 @@
 // The kinds of records.
 ghost use Rattle.std.specs.Prelude.{◌≡◌};
 ghost use Rattle.record_table.specs.Table.{kind_of, body_length};
-ghost use Rattle.record_table.specs.Kinds.{code, Decodes};
+ghost use Rattle.record_table.specs.inner.Kinds.{code, Decodes};
 
 use super::{
     CIRCULATION_BODY, FACTOR_BODY, HEAD_BODY, MOST_CIRCULATIONS, MOST_HEADS, MOST_PARS, MOST_PATHS,

@@ -37,3 +37,8 @@ number LakeInPart = 28
 abbrev pub row_of : {A : Type 0} → Result A Refusal → ℕ
 row_of (Ok a) = 0
 row_of (Err refusal) = number refusal
+
+-- what rows say above others, which say `below`
+abbrev pub row_above : {A : Type 0} → Result A Refusal → ℕ → ℕ
+row_above (Ok a) below = below
+row_above (Err refusal) below = number refusal

@@ -1,7 +1,8 @@
 #![tactic(auto)]
 // The refusals, and how their table is read (document 01, 'Where each refusal is checked').
-ghost use Rattle.std.specs.Prelude.{◌≡◌, cond};
-ghost use Rattle.rows.specs.Refusals.{number};
+ghost use Rattle.std.specs.Prelude.{ℕ, ◌≡◌, cond};
+ghost use Rattle.rows.specs.Refusals.{number, row_above};
+ghost use Rattle.rows.specs.Rows.{row as Rows·row};
 
 // The refusals by what meets each, in the order of their numbers.
 #[derive(Clone, Copy, Debug, PartialEq, Eq)]
@@ -44,9 +45,17 @@ impl Refusal {
     }
 }
 
-// One row of the table: it refuses where its condition is met.
+// One row of the table: it refuses where its condition is met, and else the rows below decide.
 pub fn row(refusal: Refusal, met: bool) -> Result<(), Refusal>
-    ensures { result ≡ cond met (Err refusal) (Ok tt) }
+    ensures value { result ≡ cond met (Err refusal) (Ok tt) }
+    ensures in_table { (below : ℕ) → row_above result below ≡ Rows·row (number refusal) met below }
 {
     if met { Err(refusal) } else { Ok(()) }
+}
+
+// The same by number, whichever it is: the row's, or what the rows below it say.
+pub fn row_or(number: u8, met: bool, below: u8) -> u8
+    ensures { result ≡ Rows·row number met below }
+{
+    if met { number } else { below }
 }

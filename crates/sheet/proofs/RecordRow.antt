@@ -9,7 +9,7 @@ use Rattle.record_table.specs.Table.{kind_of, body_in}
 use Rattle.std.specs.Result.{IsErr}
 use Rattle.std.specs.Prelude.{Result}
 use Rattle.rows.specs.declared.Refusal.{Refusal}
-use Rattle.record_table.specs.Kinds.{code, Named}
+use Rattle.record_table.specs.inner.Kinds.{code, Named}
 use Rattle.record_table.proofs.ByKind.{unnamed}
 use Rattle.record_table.specs.declared.kind.Kind.{Kind}
 use Rattle.record_table.specs.declared.kind.Kind.TheVariants as kind

@@ -5,7 +5,7 @@ mod answer;
 ghost use Rattle.std.specs.Prelude.{◌≡◌, List, ℕ, MatchResult, ◌+◌, ◌*◌, ◌≤◌, ◌<◌, ◌^◌, length, true};
 ghost use Rattle.fields.specs.Fields.{byte_at};
 ghost use Rattle.record_table.specs.Table.{kind_of, body_length};
-ghost use Rattle.record_table.specs.Kinds.{code, Named};
+ghost use Rattle.record_table.specs.inner.Kinds.{code, Named};
 ghost use Rattle.records.specs.Content.{Content};
 ghost use Rattle.record_rows.specs.Rows.{body_row, last_row};
 ghost use Rattle.layout.specs.Layout.{layout_of};

@@ -1,21 +1,32 @@
 -- The records that a draft gives: how many there are, and their bytes.
-use Prim.Native.Nat.{ℕ}
+use Prim.Native.Nat.{ℕ, ◌+◌, ◌*◌, ◌≤◌}
 use mathlib.Core.Path.{◌≡◌, refl, sym, ◌∙◌}
 use mathlib.Core.List.{List, ◌∷◌, ◌++◌, map, append-nil, append_assoc}
 use native.Mathlib.Omega.{arith}
-use lib.ListN.{length, take}
-use lib.Seq.{take_all}
+use lib.ListN.{length, take, length-map}
+use lib.Seq.{take_all, length-take-le}
 use borrow.Author.Tests.{lt-ltb, le-ltb}
 use Rattle.integers.proofs.Cases.{below_or}
+use Rattle.record_table.specs.inner.Sizes.{size}
+use Rattle.layout.specs.Layout.{layout_of}
+use Rattle.layout.specs.inner.Places.{extent}
+use Rattle.layout.proofs.Places.{extent_is}
 use Rattle.drafts.specs.declared.Draft.{Draft}
 use Rattle.drafts.specs.Draft.{point_given, given}
 use Rattle.records.specs.Bodies.{head_of, zone_of, unit_of, point_of, par_of, factor_of, path_of, circulation_of}
 use Rattle.sheet_bytes.specs.SheetBytes.{head_body, zone_body, unit_body, point_body, par_body, factor_body, path_body, circulation_body, all, sheet_bytes}
 use Rattle.sheet_bytes.specs.inner.Marked.{marked_point, marked}
 use Rattle.sheet_bytes.specs.inner.Returns.{Returns, Each, Returned}
-use Rattle.sheet_writer.specs.inner.Given.{at_most}
+use Rattle.sheet_writer.specs.inner.Given.{at_most, most_given}
 
 module _ (d : Draft) where
+  -- how many bytes the records that are given have
+  pub given_room : extent (layout_of (given d)) ≡ size 1 + size 2 * length (take d.zone_count d.zones) + size 3 * length (take d.unit_count d.units)
+      + size 4 * length (take d.point_count d.points) + size 5 * length (take d.par_count d.pars) + size 6 * length (take d.factor_count d.factors)
+      + size 7 * length (take d.path_count d.paths) + size 8 * length (take d.circulation_count d.circulations)
+  unfolding layout_of
+  given_room = omega (arith, extent_is (layout_of (given d)), length-map (take d.point_count d.points) point_given)
+
   -- part by part, as they are written
   pub content_bytes : (1 ∷ head_body d.head) ++ all 2 zone_body (marked (given d)).zones ++ all 3 unit_body (marked (given d)).units
       ++ (all 4 point_body (marked (given d)).points ++ all 5 par_body (marked (given d)).pars ++ all 6 factor_body (marked (given d)).factors)
@@ -53,6 +64,12 @@ module _ {A : Type 0} {l : List A} {most count n : ℕ} (h : Part l most count n
       (λ g. rw (h.is, lt-ltb count most g) refl)
       (λ g. rw (h.is, le-ltb count most g) (take_all most l (omega (arith, h.full)) ∙ sym (take_all count l (omega (arith, h.full)))))
 
+  pub part_most : n ≤ most
+  part_most = below_or count most (λ g. rw (h.is, lt-ltb count most g) (omega arith)) (λ g. rw (h.is, le-ltb count most g) (omega arith))
+
+  pub part_length : length (take count l) ≡ n
+  part_length = rw (← part_taken) (length-take-le n l (omega (arith, part_most, h.full)))
+
 pub record Parts (d : Draft) (z u p a f q k : ℕ) : Type 0 where
   pub zones : Part d.zones 33 d.zone_count z
   pub units : Part d.units 257 d.unit_count u
@@ -63,6 +80,26 @@ pub record Parts (d : Draft) (z u p a f q k : ℕ) : Type 0 where
   pub circulations : Part d.circulations 2 d.circulation_count k
 
 module _ {d : Draft} {z u p a f q k : ℕ} (h : Parts d z u p a f q k) where
+  pub given_extent : extent (layout_of (given d)) ≡ size 1 + size 2 * z + size 3 * u + size 4 * p + size 5 * a + size 6 * f + size 7 * q + size 8 * k
+  given_extent =
+      omega (
+        arith,
+        given_room d,
+        part_length h.zones,
+        part_length h.units,
+        part_length h.points,
+        part_length h.pars,
+        part_length h.factors,
+        part_length h.paths,
+        part_length h.circulations,
+      )
+
+  pub given_most : extent (layout_of (given d)) ≤ most_given
+  given_most = omega (arith, given_extent, part_most h.zones, part_most h.units, part_most h.points, part_most h.pars, part_most h.factors, part_most h.paths, part_most h.circulations)
+
+  pub few_zones : length (given d).zones ≤ 33
+  few_zones = omega (arith, part_length h.zones, part_most h.zones)
+
   pub given_bytes : (1 ∷ head_body d.head) ++ all 2 zone_body (take z d.zones) ++ all 3 unit_body (take u d.units)
       ++ (all 4 point_body (map marked_point (map point_given (take p d.points))) ++ all 5 par_body (take a d.pars) ++ all 6 factor_body (take f d.factors))
       ++ (all 7 path_body (take q d.paths) ++ all 8 circulation_body (take k d.circulations))

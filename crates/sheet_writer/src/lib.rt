@@ -2,6 +2,8 @@
 // The writer of sheets (document 02, requests 3 and 6): a draft as a sheet, or rows 5 to 13, 28, or 27.
 ghost use Rattle.std.specs.Prelude.{◌≡◌, ◌≤◌, length, take};
 ghost use Rattle.rows.specs.Refusals.{row_of};
+ghost use Rattle.layout.specs.Layout.{layout_of};
+ghost use Rattle.layout.specs.inner.Places.{extent};
 ghost use Rattle.sheet.specs.Sheet.{reading, number_in};
 ghost use Rattle.writers.specs.inner.Wrote.{Wrote};
 ghost use Rattle.sheet_bytes.specs.SheetBytes.{sheet_bytes};
@@ -9,7 +11,6 @@ ghost use Rattle.sheet_bytes.specs.inner.Marked.{marked};
 ghost use Rattle.sheet_bytes.specs.inner.Returns.{Returned};
 ghost use Rattle.drafts.specs.Draft.{given};
 ghost use Rattle.sheet_writer.specs.Promise.{Promise};
-ghost use Rattle.sheet_writer.specs.inner.Given.{most_given};
 
 use drafts::Draft;
 use rows::Refusal;
@@ -44,8 +45,9 @@ fn first<R, const N: usize>(records: &[R; N], n: usize) -> &[R]
 
 // All records that are given.
 fn put_sheet(d: &Draft, out: &mut [u8]) -> usize
-    requires { most_given ≤ length out.old }
+    requires { extent (layout_of (given d.now)) ≤ length out.old }
     ensures wrote { Wrote (sheet_bytes (marked (given d.now))) out.old out.new result }
+    ensures value { result ≡ extent (layout_of (given d.now)) }
     ensures returned { Returned (marked (given d.now)) }
     ensures few { length (given d.now).zones ≤ 33 }
 {
@@ -72,20 +74,20 @@ fn checked(s: &[u8]) -> Result<(), Refusal>
     }
 }
 
-// The records are written to an array and read there first: nothing is stored in the buffer before they have passed.
+// The records are written to an array first and read there: nothing is stored in the output buffer before they have
+// passed.
 pub fn write_draft(d: Draft, out: &mut [u8]) -> Written
     ensures { Promise (given d) out.old out.new result }
 {
     let mut bytes = [0u8; ROOM];
     let n = put_sheet(&d, &mut bytes);
-    let sheet = &bytes[..n];
-    if let Err(refusal) = checked(sheet) {
+    if let Err(refusal) = checked(&bytes[..n]) {
         return Written {
             refusal: refusal.number(),
             length: 0,
         };
     }
-    if out.len() < sheet.len() {
+    if out.len() < n {
         return Written {
             refusal: Refusal::BufferTooShort.number(),
             length: 0,
@@ -93,6 +95,6 @@ pub fn write_draft(d: Draft, out: &mut [u8]) -> Written
     }
     Written {
         refusal: 0,
-        length: writers::put(sheet, out),
+        length: put_sheet(&d, out),
     }
 }

@@ -1,6 +1,6 @@
 #![tactic(auto)]
 // Sums over indices.
-ghost use Rattle.sums.specs.Summing.{Summable, IsSum};
+ghost use Rattle.sums.specs.inner.Summing.{Summable, IsSum};
 
 // The sum of what a closure gives at the indices below n.
 // No `sum` of an iterator: its contract asks that every run of it stays in range, which is longer to show.

@@ -43,6 +43,11 @@ module _ (c : Content) (class target : ℕ) where
   unfolding weighted_sum members how_many weighted_term power_of weighted_output output_term
   outputs_are = refl
 
+  -- units are of no class
+  pub units_of_no_class : weighted_sum c unit_subject 0 target ≡ weighted_sum c unit_subject class target
+  unfolding weighted_sum members how_many weighted_term power_of
+  units_of_no_class = refl
+
   pub schedules_are : weighted_sum c point_subject class target ≡ schedule_flow c class target
   unfolding weighted_sum members how_many weighted_term power_of tenfold_in schedule_flow schedule_term
   schedules_are = sum_same _ _ (length c.points) (λ i l. tenfold_times (eqb (point c i).sort class) (net_schedule (point c i)) (factor c target point_subject i))

@@ -7,7 +7,7 @@ ghost use Rattle.records.specs.Codes.{class_code, subject_code, unit_subject, po
 ghost use Rattle.sheet.specs.Sheet.{content_of};
 ghost use Rattle.figures.specs.Flow.{factor, load_term, weighted_load, net_schedule};
 ghost use Rattle.zone_sums.specs.ByZone as by_zone;
-ghost use Rattle.weighted_sums.specs.inner.Weighted.{tenfold_in, weighted_term, weighted_sum};
+ghost use Rattle.weighted_sums.specs.inner.Weighted.{OnTarget, tenfold_in, weighted_term, weighted_sum};
 
 use records::{Class, Par, Point, Subject};
 use sheet::AcceptedSheet;
@@ -18,11 +18,11 @@ pub const FLOWGATE: usize = 0;
 
 // Ten times a record's power, if the record is of the class asked. of: the record's code, a number in the C interface.
 #[tactic(auto, unfolding(crate::specs::inner::Weighted::tenfold_in))]
-fn tenfold_in(of: u8, class: Class, power: i64) -> i64
+fn tenfold_in(of: u8, class: u8, power: i64) -> i64
     requires { nat_abs power ≤ 400000 }
-    ensures { result ≡ tenfold_in of (class_code class) power }
+    ensures { result ≡ tenfold_in of class power }
 {
-    if of == class.code() { power * 10 } else { 0 }
+    if of == class { power * 10 } else { 0 }
 }
 
 #[tactic(auto, unfolding(figures::specs::Flow::net_schedule))]
@@ -55,18 +55,18 @@ fn output_term(sheet: &AcceptedSheet<'_>, target: usize, i: usize) -> i64
     weigh(sheet, target, Subject::Unit, i, i64::from(u.output))
 }
 
-fn point_term(sheet: &AcceptedSheet<'_>, class: Class, target: usize, i: usize) -> i64
+fn point_term(sheet: &AcceptedSheet<'_>, class: u8, target: usize, i: usize) -> i64
     requires { (target ≤ sheet.now.layout.pars) × (i < sheet.now.layout.points) }
-    ensures { result ≡ weighted_term (content_of sheet.now.bytes.now) point_subject (class_code class) target i }
+    ensures { result ≡ weighted_term (content_of sheet.now.bytes.now) point_subject class target i }
 {
     let p = sheet_records::point_at(sheet, i);
     let power = tenfold_in(p.sort, class, net_schedule(&p));
     weigh(sheet, target, Subject::Point, i, power)
 }
 
-fn par_term(sheet: &AcceptedSheet<'_>, class: Class, i: usize) -> i64
+fn par_term(sheet: &AcceptedSheet<'_>, class: u8, i: usize) -> i64
     requires { i < sheet.now.layout.pars }
-    ensures { result ≡ weighted_term (content_of sheet.now.bytes.now) par_subject (class_code class) 0 i }
+    ensures { result ≡ weighted_term (content_of sheet.now.bytes.now) par_subject class 0 i }
 {
     let p = sheet_records::par_at(sheet, i);
     let power = tenfold_in(p.class, class, over_target(&p));
@@ -88,19 +88,46 @@ pub fn output(sheet: &AcceptedSheet<'_>, target: usize) -> i64
     sums::sum_to(sheet.layout.units, |i| output_term(sheet, target, i))
 }
 
+fn points_of(sheet: &AcceptedSheet<'_>, class: u8, target: usize) -> i64
+    requires { target ≤ sheet.now.layout.pars }
+    ensures { result ≡ weighted_sum (content_of sheet.now.bytes.now) point_subject class target }
+{
+    sums::sum_to(sheet.layout.points, |i| point_term(sheet, class, target, i))
+}
+
+fn pars_of(sheet: &AcceptedSheet<'_>, class: u8) -> i64
+    ensures { result ≡ weighted_sum (content_of sheet.now.bytes.now) par_subject class 0 }
+{
+    sums::sum_to(sheet.layout.pars, |i| par_term(sheet, class, i))
+}
+
 // Over the points of a type.
 pub fn points(sheet: &AcceptedSheet<'_>, class: Class, target: usize) -> i64
     requires { target ≤ sheet.now.layout.pars }
     ensures { result ≡ weighted_sum (content_of sheet.now.bytes.now) point_subject (class_code class) target }
 {
-    sums::sum_to(sheet.layout.points, |i| point_term(sheet, class, target, i))
+    points_of(sheet, class.code(), target)
 }
 
 // Over the PARs of a class, on the flowgate.
 pub fn pars(sheet: &AcceptedSheet<'_>, class: Class) -> i64
     ensures { result ≡ weighted_sum (content_of sheet.now.bytes.now) par_subject (class_code class) 0 }
 {
-    sums::sum_to(sheet.layout.pars, |i| par_term(sheet, class, i))
+    pars_of(sheet, class.code())
+}
+
+// Over all records of a subject other than zones; where these are points or PARs, over those of the class, which may be
+// any byte.
+#[tactic(auto, using(crate::proofs::Laws::units_of_no_class))]
+pub fn weighted(sheet: &AcceptedSheet<'_>, subject: Subject, class: u8, target: usize) -> i64
+    requires { OnTarget sheet.now.layout.pars target (subject_code subject) }
+    ensures { result ≡ weighted_sum (content_of sheet.now.bytes.now) (subject_code subject) class target }
+{
+    match subject {
+        Subject::Unit => output(sheet, target),
+        Subject::Point => points_of(sheet, class, target),
+        _ => pars_of(sheet, class),
+    }
 }
 
 // Over all zones: document 01's N.

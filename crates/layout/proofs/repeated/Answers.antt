@@ -3,7 +3,7 @@ use Prim.Native.Nat.{◌-◌, ◌+◌, ◌*◌}
 use mathlib.Core.Path.{◌≡◌, ◌∙◌}
 use native.Mathlib.Omega.{arith}
 use borrow.Author.Rules.{rules}
-use Rattle.record_table.specs.Kinds.{code}
+use Rattle.record_table.specs.inner.Kinds.{code}
 use Rattle.record_table.proofs.ByKind.{code_least, code_most}
 use Rattle.layout.specs.inner.Places.{first_of}
 use Rattle.layout.proofs.Names.{repeated_at}

@@ -4,7 +4,7 @@ use native.Mathlib.Omega.{arith}
 use native.Mathlib.Nat.{add-sub_cancel_left}
 use borrow.Author.Rules.{rules}
 use Rattle.fields.specs.Fields.{byte_at}
-use Rattle.record_table.specs.Kinds.{code}
+use Rattle.record_table.specs.inner.Kinds.{code}
 use Rattle.rows.specs.Refusals.{number, row_of}
 use Rattle.rows.proofs.Refusing.{refuses}
 use Rattle.record_rows.proofs.FrontRows.{front_pass}

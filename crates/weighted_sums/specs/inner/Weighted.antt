@@ -1,10 +1,10 @@
 -- The weighted sums of steps 3 to 5 in one form: what each unit, point or PAR brings, times its factor on a target. N, over the zones, has its own in `figures`.
 -- Subjects are a factor's. The class asked is a point's type or a PAR's class; units have none.
-use Rattle.std.specs.Prelude.{ℕ, ◌≡◌, cond, List, eqb, ℤ, pos, ◌-ℤ◌, ◌*ℤ◌, length}
+use Rattle.std.specs.Prelude.{ℕ, ◌≤◌, ◌≡◌, cond, List, eqb, ℤ, pos, ◌-ℤ◌, ◌*ℤ◌, length}
 use Rattle.integers.specs.Sum.{sum_to}
 use Rattle.due_factors.specs.Due.{how_many}
 use Rattle.layout.specs.declared.Layout.{Layout}
-use Rattle.records.specs.Codes.{unit_subject, point_subject}
+use Rattle.records.specs.Codes.{unit_subject, zone_subject, point_subject, par_subject}
 use Rattle.records.specs.Content.{Content, point, par}
 use Rattle.sheet.specs.Sheet.{read_sheet, content_of, Accepted}
 use Rattle.figures.specs.Balance.{output}
@@ -15,6 +15,14 @@ use Rattle.zone_sums.specs.ByZone.{zone_loads}
 pub record Lent (s : List ℕ) (l : Layout) (array : List ℤ) : Type 0 where
   pub accepted : read_sheet s ≡ Accepted l
   pub loads : array ≡ zone_loads (content_of s)
+
+-- a target, and a subject other than zones whose factors on it are due
+pub record OnTarget (pars target subject : ℕ) : Type 0 where
+  pub known : target ≤ pars
+  pub low : 1 ≤ subject
+  pub high : subject ≤ 4
+  pub other : subject ≡ zone_subject → ⊥
+  pub par : subject ≡ par_subject → target ≡ 0
 
 -- ten times a record's power, if the record is of the class asked
 unfoldable pub tenfold_in : ℕ → ℕ → ℤ → ℤ

@@ -2,7 +2,7 @@
 use Prim.Native.Nat.{◌+◌, ◌*◌, ◌≤◌}
 use mathlib.Core.Path.{refl}
 use native.Mathlib.Omega.{arith}
-use Rattle.record_table.specs.Kinds.{code}
+use Rattle.record_table.specs.inner.Kinds.{code}
 use Rattle.record_table.proofs.ByKind.{code_most}
 use Rattle.record_table.specs.inner.Sizes.{size}
 use Rattle.layout.specs.inner.Places.{extent}

@@ -1,15 +1,14 @@
--- `pars` meets its contract.
+-- `pars_of` meets its contract.
 use mathlib.Core.Path.{◌≡◌}
 use Prim.Native.Nat.{◌≤◌}
 use native.Mathlib.Omega.{arith}
 use borrow.Author.Rules.{rules}
 use Rattle.due_factors.specs.Due.{how_many}
-use Rattle.records.specs.Codes.{class_code}
 use Rattle.weighted_sums.specs.inner.Weighted.{weighted_term, members, weighted_sum}
 use Rattle.sheet.specs.Sheet.{content_of}
 use Rattle.sheet.proofs.Accepted.{valid, counts}
 use Rattle.weighted_sums.proofs.Laws.{par_term_within}
-use Rattle.weighted_sums.proofs.pars.Goals as goal
+use Rattle.weighted_sums.proofs.pars_of.Goals as goal
 
 pub sum_to-requires : goal.sum_to-requires
 sum_to-requires c =
@@ -18,13 +17,13 @@ sum_to-requires c =
     record {
       callable = λ i l. search rules;
       most = 104000000000;
-      within = λ i r l p. let e : r ≡ weighted_term (content_of c.args.sheet.now.bytes.now) 4 (class_code c.args.class) 0 i = search rules in rw e (par_term_within _ _ a (class_code c.args.class) l);
+      within = λ i r l p. let e : r ≡ weighted_term (content_of c.args.sheet.now.bytes.now) 4 c.args.class 0 i = search rules in rw e (par_term_within _ _ a c.args.class l);
       fits = omega (arith, few);
     }
 
 pub returns : goal.returns
 unfolding weighted_sum members how_many
 returns c =
-    let e = c.sum_to.ensures.is (weighted_term (content_of c.args.sheet.now.bytes.now) 4 (class_code c.args.class) 0) (λ i r l p. search rules) in
+    let e = c.sum_to.ensures.is (weighted_term (content_of c.args.sheet.now.bytes.now) 4 c.args.class 0) (λ i r l p. search rules) in
     let n = (counts _ _ c.args.sheet.now.accepted).pars in
     search (rules, e, n)
